@@ -1,0 +1,36 @@
+// A run of fields of one width, at most 56 bits each, one after the other.
+ghost use mathlib.Core.Path.{_≡_};
+ghost use Prim.Native.Nat.{_+_, _*_, _^_, _≤_, _<_};
+ghost use lib.ListN.{length, drop};
+ghost use Rattle.bits.specs.Fields.{flat, words};
+ghost use Rattle.bits.specs.Overlay.{overlay};
+use crate::field::bits_at;
+use crate::field::put_bits;
+
+// Fills out with the fields of w bits from bit at on.
+pub fn words_at(s: &[u8], at: usize, w: usize, out: &mut [u64])
+    requires { ⌜ (w ≤ 56) × (at + length (now out) * w ≤ length (now s) * 8) × (length (now s) < 2 ^ 61) ⌝ }
+    ensures { λ _. ⌜ now (out .exit) ≡ words w (length (now (out .entry))) (drop at (flat 8 (now (s .entry)))) ⌝ }
+{
+    let mut p = at;
+    let mut i = 0;
+    while i < out.len() {
+        out[i] = bits_at(s, p, w);
+        p += w;
+        i += 1;
+    }
+}
+
+// Puts the low w bits of each number of ws from bit at on; no other bit changes.
+pub fn put_words(s: &mut [u8], at: usize, w: usize, ws: &[u64])
+    requires { ⌜ (w ≤ 56) × (at + length (now ws) * w ≤ length (now s) * 8) × (length (now s) < 2 ^ 61) ⌝ }
+    ensures { λ _. ⌜ flat 8 (now (s .exit)) ≡ overlay at (flat w (now (ws .entry))) (flat 8 (now (s .entry))) ⌝ }
+{
+    let mut p = at;
+    let mut i = 0;
+    while i < ws.len() {
+        put_bits(s, p, w, ws[i]);
+        p += w;
+        i += 1;
+    }
+}
