@@ -10,15 +10,8 @@ use lib.Dec.{ltb}
 use borrow.Author.Tests.{ltb-true, lt-ltb}
 use Rattle.bits.specs.Bits.{bits, val}
 use Rattle.bits.specs.Fields.{size, unpack, pack, fits}
+use Rattle.bits.proofs.Choice.{and-left, and-right}
 use Rattle.bits.proofs.Value.{length-bits, val-bits, val-bits-lt, bits-val, val-lt, val-append, take-bits, drop-bits}
-
-and-left : (a b : Bool) → a && b ≡ true → a ≡ true
-and-left true b e = refl
-and-left false b e = e
-
-and-right : (a b : Bool) → a && b ≡ true → b ≡ true
-and-right true b e = e
-and-right false b e = cc
 
 -- the fields of a format in a number, by division
 abbrev pub parts : List ℕ → ℕ → List ℕ
@@ -40,6 +33,9 @@ unpack-bits (w ∷ ws) n =
     (ap val (take-bits w (size ws) n) ∙ val-bits w (n / 2 ^ size ws))
     (ap (unpack ws) (drop-bits w (size ws) n) ∙ unpack-bits ws n)
 
+pub unpack-val : (ws : List ℕ) (l : List Bool) → length l ≡ size ws → unpack ws l ≡ parts ws (val l)
+unpack-val ws l e = ap (unpack ws) (sym (bits-val l (size ws) e)) ∙ unpack-bits ws (val l)
+
 pub length-pack : (ws vs : List ℕ) → fits ws vs ≡ true → length (pack ws vs) ≡ size ws
 unfolding fits pack
 length-pack [] vs h = refl
@@ -58,6 +54,10 @@ val-pack (w ∷ ws) (v ∷ vs) h =
     ∙ ap₂ (λ (n m : ℕ). n + m)
     (ap₂ (λ (n m : ℕ). n * 2 ^ m) (val-bits-lt w v (ltb-true v (2 ^ w) (and-left (ltb v (2 ^ w)) (fits ws vs) h))) (length-pack ws vs h'))
     (val-pack ws vs h')
+
+-- and the number takes no more bits than the format
+pub joined-lt : (ws vs : List ℕ) → fits ws vs ≡ true → joined ws vs < 2 ^ size ws
+joined-lt ws vs h = subst (λ (n : ℕ). n < 2 ^ size ws) (val-pack ws vs h) (subst (λ (n : ℕ). val (pack ws vs) < 2 ^ n) (length-pack ws vs h) (val-lt (pack ws vs)))
 
 -- what is packed unpacks to the same fields
 pub unpack-pack : (ws vs : List ℕ) → fits ws vs ≡ true → unpack ws (pack ws vs) ≡ vs

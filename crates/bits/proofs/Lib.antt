@@ -1,3 +1,4 @@
+pub mod Choice
 pub mod Value
 pub mod Stretch
 pub mod Fields

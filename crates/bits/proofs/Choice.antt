@@ -1,0 +1,17 @@
+-- Both parts of a test that holds, and the two ways of a choice.
+use mathlib.Core.Path.{_≡_, refl, ap}
+use mathlib.Core.Bool.{Bool, true, false, _&&_, cond}
+
+pub and-left : (a b : Bool) → a && b ≡ true → a ≡ true
+and-left true b e = refl
+and-left false b e = e
+
+pub and-right : (a b : Bool) → a && b ≡ true → b ≡ true
+and-right true b e = e
+and-right false b e = cc
+
+pub chosen : {A : Type 0} (t : Bool) (a b : A) → t ≡ true → cond t a b ≡ a
+chosen t a b e = ap (λ (x : Bool). cond x a b) e
+
+pub passed-over : {A : Type 0} (t : Bool) (a b : A) → t ≡ false → cond t a b ≡ b
+passed-over t a b e = ap (λ (x : Bool). cond x a b) e

@@ -1,0 +1,5 @@
+pub mod Blocks
+pub mod Repeats
+pub mod WayBack
+pub mod Runs
+pub mod Examples

@@ -1,0 +1,6 @@
+pub mod Fields
+pub mod Index
+pub mod Numbers
+pub mod Inverse
+pub mod UserGroups
+pub mod Examples

@@ -1,0 +1,4 @@
+pub mod Format
+pub mod Kind
+pub mod Compose
+pub mod User
