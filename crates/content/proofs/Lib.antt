@@ -1,0 +1,15 @@
+pub mod Zeros
+pub mod Halves
+pub mod Lengths
+pub mod OneItem
+pub mod Packings
+pub mod WrittenIsRead
+pub mod ReadIsWritten
+pub mod AtMost28
+pub mod Places
+pub mod Remaining
+pub mod Reader
+pub mod WidthBound
+pub mod Prepending
+pub mod PackedIsRead
+pub mod WorkedContent

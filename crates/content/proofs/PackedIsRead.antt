@@ -1,0 +1,53 @@
+-- What is packed is read: the packer takes writable items as the reader gives them, and the reader gives them back.
+use Prim.Native.Nat.{ℕ, _+_, _-_, _≤_}
+use native.Mathlib.Omega.{arith}
+use mathlib.Core.Path.{_≡_, ap, ap₂, _∙_}
+use mathlib.Core.Bool.{Bool, true, false, _&&_}
+use mathlib.Core.List.{List, _++_}
+use lib.ListN.{length, take, length-append, length-replicate}
+use lib.Seq.{take-append-add}
+use Rattle.content.specs.Items.{holds, content}
+use Rattle.content.specs.Packing.{zeros, packing, longest, writable, room, padded}
+use Rattle.content.specs.Held.{bitsOf, startingWith}
+use Rattle.content.specs.Stored.{limit, filled, wellPlaced}
+use Rattle.content.specs.Answers.{packed, packedIf, packedOf}
+use Rattle.content.specs.declared.item.Item.{Item}
+use Rattle.content.specs.declared.pack.Packed.{Packed}
+use Rattle.content.proofs.Zeros.{take-zeros}
+use Rattle.content.proofs.Halves.{bitsOf-contentOf}
+use Rattle.content.proofs.Lengths.{room-enough}
+use Rattle.content.proofs.Packings.{packing-long}
+use Rattle.content.proofs.Places.{listed-filled, wellPlaced-filled}
+use Rattle.content.proofs.WrittenIsRead.{packable-short, writable-packable, written-is-read}
+
+module _ (its : List Item) (w : writable its ≡ true) where
+  abbrev n : ℕ
+  n = length (packing its)
+
+  short : n ≤ longest
+  short = packable-short its (writable-packable its w)
+
+  pub packs-all : packedOf (filled its) ≡ packed its
+  unfolding packedIf packedOf
+  packs-all =
+      let h : length its ≤ limit = let s = short in omega (arith, packing-long its) in
+      ap (λ (l : List Item). packedIf (wellPlaced (filled its) && writable l) l) (listed-filled its)
+      ∙ ap (λ (b : Bool). packedIf b its) (ap₂ _&&_ (wellPlaced-filled its h) w)
+
+  -- the first bits held are the content of the fewest groups
+  pub packed-padded : take (room n) (bitsOf (startingWith (packing its))) ≡ padded its
+  unfolding startingWith padded
+  packed-padded =
+      let s = short in
+      let r = room-enough n in
+      let e : length (packing its ++ zeros (128 - n)) ≡ 128 =
+      let k : n + (128 - n) ≡ 128 = omega arith in
+      length-append (packing its) (zeros (128 - n)) ∙ ap (λ (m : ℕ). n + m) (length-replicate (128 - n) false) ∙ k in
+      let k : room n ≡ n + (room n - n) = omega arith in
+      ap₂ take k (bitsOf-contentOf (packing its ++ zeros (128 - n)) e)
+      ∙ take-append-add (packing its) (zeros (128 - n)) (room n - n)
+      ∙ ap (λ (z : List Bool). packing its ++ z) (take-zeros (room n - n) (128 - n) (omega arith))
+
+  pub packed-is-read : content (take (room n) (bitsOf ((packedOf (filled its)) .content))) ≡ holds its
+  unfolding packed
+  packed-is-read = ap (λ (p : Packed). content (take (room n) (bitsOf (p .content)))) packs-all ∙ ap content packed-padded ∙ written-is-read its w

@@ -1,0 +1,122 @@
+-- The laws of items in their places.
+use Prim.Native.Nat.{ℕ, zero, suc, _+_, _-_, _≤_, _<_}
+use native.Mathlib.Omega.{arith}
+use mathlib.Core.Path.{_≡_, refl, sym, ap, ap₂, _∙_}
+use mathlib.Core.Bool.{true, _&&_}
+use mathlib.Core.List.{List, [], _∷_, _++_}
+use lib.ListN.{length, drop, getD, set, replicate, length-append, length-drop, take-append-drop}
+use lib.Seq.{take-at, drop-at, set-at, length-take-le, append-snoc, drop-cons, getD-take}
+use lib.Dec.{eqb, leb}
+use borrow.Author.Tests.{le-leb, leb-true, eqb-true}
+use Rattle.content.specs.Packing.{zeroItem, lastZero}
+use Rattle.content.specs.Stored.{limit, noItem, filled, listed, allZeroItems, wellPlaced}
+use Rattle.content.specs.declared.item.Item.{Item}
+use Rattle.content.specs.declared.items.Items.{Items}
+use Rattle.bits.proofs.Choice.{and-left, and-right}
+
+pub listed-filled : (its : List Item) → listed (filled its) ≡ its
+unfolding listed filled
+listed-filled its = take-at its (replicate (limit - length its) noItem) (length its) refl
+
+allZeroItems-none : (n : ℕ) → allZeroItems (replicate n noItem) ≡ true
+unfolding allZeroItems zeroItem
+allZeroItems-none zero = refl
+allZeroItems-none (suc n) = allZeroItems-none n
+
+pub wellPlaced-filled : (its : List Item) → length its ≤ limit → wellPlaced (filled its) ≡ true
+unfolding wellPlaced filled
+wellPlaced-filled its h =
+    ap₂ _&&_ (le-leb (length its) limit h)
+    (ap allZeroItems (drop-at its (replicate (limit - length its) noItem) (length its) refl) ∙ allZeroItems-none (limit - length its))
+
+zero-item : (i : Item) → zeroItem i ≡ true → i ≡ noItem
+unfolding zeroItem
+zero-item i h =
+    let l = eqb-true (i .label) 0 (and-left (eqb (i .label) 0) (eqb (i .value) 0) h) in
+    let v = eqb-true (i .value) 0 (and-right (eqb (i .label) 0) (eqb (i .value) 0) h) in
+    ap₂ (λ (x y : ℕ). let j : Item = record { label = x; value = y } in j) l v
+
+zero-items : (its : List Item) → allZeroItems its ≡ true → its ≡ replicate (length its) noItem
+unfolding allZeroItems
+zero-items [] h = refl
+zero-items (i ∷ its) h =
+    ap₂ (λ (j : Item) (js : List Item). j ∷ js)
+    (zero-item i (and-left (zeroItem i) (allZeroItems its) h))
+    (zero-items its (and-right (zeroItem i) (allZeroItems its) h))
+
+-- items that are well placed are known by their list
+pub filled-listed : (s : Items) → length (s .places) ≡ limit → wellPlaced s ≡ true → filled (listed s) ≡ s
+unfolding wellPlaced filled listed
+filled-listed s n h =
+    let c = leb-true (s .count) limit (and-left (leb (s .count) limit) (allZeroItems (drop (s .count) (s .places))) h) in
+    let k : length (listed s) ≡ s .count = length-take-le (s .count) (s .places) (omega arith) in
+    let m : limit - length (listed s) ≡ length (drop (s .count) (s .places)) = omega (arith, length-drop (s .count) (s .places)) in
+    let z = zero-items (drop (s .count) (s .places)) (and-right (leb (s .count) limit) (allZeroItems (drop (s .count) (s .places))) h) in
+    ap₂ (λ (x : ℕ) (y : List Item). let t : Items = record { count = x; places = y } in t) k
+    (ap (λ (x : ℕ). listed s ++ replicate x noItem) m ∙ ap (λ (d : List Item). listed s ++ d) (sym z) ∙ take-append-drop (s .count) (s .places))
+
+-- one item more, in the first unused place
+pub filled-snoc : (its : List Item) (i : Item) → length its < limit
+    → filled (its ++ (i ∷ [])) ≡ record { count = length its + 1; places = set ((filled its) .places) (length its) i }
+unfolding filled
+filled-snoc its i h =
+    let n : length (its ++ (i ∷ [])) ≡ length its + 1 = length-append its (i ∷ []) in
+    let r : limit - length its ≡ suc (limit - (length its + 1)) = omega arith in
+    ap₂ (λ (x : ℕ) (y : List Item). let t : Items = record { count = x; places = y } in t) n
+    (ap (λ (x : ℕ). (its ++ (i ∷ [])) ++ replicate (limit - x) noItem) n
+    ∙ append-snoc its i (replicate (limit - (length its + 1)) noItem)
+    ∙ sym (ap (λ (x : ℕ). set (its ++ replicate x noItem) (length its) i) r
+    ∙ set-at its noItem (replicate (limit - (length its + 1)) noItem) i (length its) refl))
+
+pub pushed-places : (s : Items) (i : Item) → s .count < limit → filled (listed s) ≡ s
+    → record { count = s .count + 1; places = set (s .places) (s .count) i } ≡ filled (listed s ++ (i ∷ []))
+unfolding filled
+pushed-places s i h e =
+    let n : length (listed s) ≡ s .count = ap (λ (x : Items). x .count) e in
+    ap₂ (λ (x : ℕ) (y : List Item). let t : Items = record { count = x; places = y } in t)
+    (ap (λ (x : ℕ). x + 1) (sym n))
+    (ap₂ (λ (p : List Item) (x : ℕ). set p x i) (ap (λ (x : Items). x .places) (sym e)) (sym n))
+    ∙ sym (filled-snoc (listed s) i (omega arith))
+
+-- the last of n + 1 items
+pub lastZero-at : (its : List Item) (n : ℕ) → length its ≡ suc n → lastZero its ≡ zeroItem (getD its n noItem)
+unfolding lastZero
+lastZero-at [] n e = absurd (omega arith)
+lastZero-at (i ∷ []) zero e = refl
+lastZero-at (i ∷ []) (suc n) e = absurd (omega arith)
+lastZero-at (i ∷ j ∷ its) zero e = absurd (omega arith)
+lastZero-at (i ∷ j ∷ its) (suc n) e = lastZero-at (j ∷ its) n (omega arith)
+
+-- one place decides, and then the rest
+pub allZeroItems-at : (its : List Item) (n : ℕ) → n < length its → allZeroItems (drop n its) ≡ zeroItem (getD its n noItem) && allZeroItems (drop (suc n) its)
+unfolding allZeroItems
+allZeroItems-at its n h = ap allZeroItems (drop-cons its n noItem h)
+
+pub wellPlaced-count : (s : Items) → wellPlaced s ≡ true → s .count ≤ limit
+unfolding wellPlaced
+wellPlaced-count s h = leb-true (s .count) limit (and-left (leb (s .count) limit) (allZeroItems (drop (s .count) (s .places))) h)
+
+module _ (s : Items) (n : length (s .places) ≡ limit) (h : s .count ≤ limit) where
+  pub length-listed : length (listed s) ≡ s .count
+  unfolding listed
+  length-listed = length-take-le (s .count) (s .places) (omega arith)
+
+  pub listed-at : (i : ℕ) → i < s .count → getD (listed s) i noItem ≡ getD (s .places) i noItem
+  unfolding listed
+  listed-at i l = getD-take (s .count) (s .places) i noItem l
+
+  -- the item at a place before the rest of them
+  pub listed-cons : (i : ℕ) → i < s .count → getD (s .places) i noItem ∷ drop (suc i) (listed s) ≡ drop i (listed s)
+  listed-cons i l =
+      ap (λ (j : Item). j ∷ drop (suc i) (listed s)) (sym (listed-at i l))
+      ∙ sym (drop-cons (listed s) i noItem (let k = length-listed in omega arith))
+
+-- items that are filled from a list are filled from their own
+pub refilled : (its : List Item) (s : Items) → s ≡ filled its → filled (listed s) ≡ s
+refilled its s e = ap (λ (x : Items). filled (listed x)) e ∙ ap filled (listed-filled its) ∙ sym e
+
+pub pushed-count : (s : Items) (i : Item) (r : Items) → filled (listed s) ≡ s → r ≡ filled (listed s ++ (i ∷ [])) → r .count ≡ s .count + 1
+unfolding filled
+pushed-count s i r e f =
+    let n : length (listed s) ≡ s .count = ap (λ (x : Items). x .count) e in
+    ap (λ (x : Items). x .count) f ∙ length-append (listed s) (i ∷ []) ∙ ap (λ (x : ℕ). x + 1) n

@@ -1,0 +1,60 @@
+-- The laws of one turn of the reader: an item taken goes after those found.
+use Prim.Native.Nat.{ℕ, _+_, _<_, _≤_}
+use native.Mathlib.Omega.{arith}
+use mathlib.Core.Path.{_≡_, refl, sym, ap, _∙_}
+use mathlib.Core.Bool.{Bool, true, false}
+use mathlib.Core.List.{List, [], _∷_, _++_, append-assoc, append-nil}
+use Rattle.bits.specs.Bits.{allZero}
+use Rattle.content.specs.Widths.{labelWidth}
+use Rattle.content.specs.Items.{item, unfit, first, Reading, holds, refused, prepend, items}
+use Rattle.content.specs.FirstLaw.{first-shorter}
+use Rattle.content.specs.ItemsLaw.{items-zero, items-unfit, items-item}
+use Rattle.content.specs.Held.{remaining}
+use Rattle.content.specs.Answers.{firstOf, leftOf, appended}
+use Rattle.content.specs.declared.item.Item.{Item}
+use Rattle.content.specs.declared.rest.Rest.{Rest}
+use Rattle.content.specs.declared.rest.Taken.{Taken}
+use Rattle.content.specs.declared.rest.Taken.the-variants as taken
+use Rattle.content.proofs.Remaining.{length-remaining}
+
+appended-after : (found : List Item) (i : Item) (r : Reading) → appended (found ++ (i ∷ [])) r ≡ appended found (prepend i r)
+unfolding appended prepend
+appended-after found i (holds its) = ap holds (append-assoc found (i ∷ []) its)
+appended-after found i (refused n) = refl
+
+module _ (found : List Item) (l : List Bool) where
+  pub found-all : allZero l ≡ true → appended found (items l) ≡ holds found
+  unfolding appended
+  found-all z = ap (appended found) (items-zero l z) ∙ ap holds (append-nil found)
+
+  pub found-refused : (n : ℕ) → allZero l ≡ false → first l ≡ unfit n → appended found (items l) ≡ refused n
+  unfolding appended
+  found-refused n z e = ap (appended found) (items-unfit l n z e)
+
+  pub found-one : (i : Item) (rest : List Bool) → allZero l ≡ false → first l ≡ item i rest → appended found (items l) ≡ appended (found ++ (i ∷ [])) (items rest)
+  found-one i rest z e = ap (appended found) (items-item l i rest z e) ∙ sym (appended-after found i (items rest))
+
+-- what taking one item tells
+module _ (r : Rest) (x : Taken) (e : firstOf x ≡ first (remaining r)) where
+  pub took-none : (n : ℕ) → x ≡ taken.Refused n → first (remaining r) ≡ unfit n
+  unfolding firstOf
+  took-none n a = sym e ∙ ap firstOf a
+
+  module _ (i : Item) (next : Rest) (a : x ≡ taken.Item i next) where
+    pub took-item : first (remaining r) ≡ item i (remaining next)
+    unfolding firstOf
+    took-item = sym e ∙ ap firstOf a
+
+    pub took-four : r .left < 128 → leftOf x ≤ r .left → next .left + labelWidth ≤ r .left
+    unfolding leftOf
+    took-four h le =
+        let b : leftOf x ≡ next .left = ap leftOf a in
+        let n = length-remaining r h in
+        let m = length-remaining next (omega arith) in
+        let s = first-shorter (remaining r) i (remaining next) took-item in
+        omega arith
+
+pub found-none : (r : Reading) → appended [] r ≡ r
+unfolding appended
+found-none (holds its) = refl
+found-none (refused n) = refl

@@ -1,0 +1,62 @@
+-- What is written is read: the content of writable items holds them.
+use Prim.Native.Nat.{ℕ, _+_, _-_, _≤_}
+use native.Mathlib.Omega.{arith}
+use mathlib.Core.Path.{_≡_, ap, _∙_}
+use mathlib.Core.Bool.{Bool, true, false, not}
+use mathlib.Core.List.{List, [], _∷_, _++_}
+use lib.ListN.{length, length-append, length-replicate}
+use lib.Dec.{leb}
+use borrow.Author.Tests.{leb-true, not-true}
+use Rattle.bits.specs.Bits.{allZero}
+use Rattle.content.specs.Items.{first, holds, prepend, items, contentLength, content}
+use Rattle.content.specs.ItemsLaw.{items-zero, items-item}
+use Rattle.content.specs.Packing.{zeros, packing, itemFits, allFit, lastZero, longest, packable, writable, room, padded}
+use Rattle.content.specs.declared.item.Item.{Item}
+use Rattle.bits.proofs.Choice.{and-left, and-right}
+use Rattle.content.proofs.Zeros.{allZero-zeros}
+use Rattle.content.proofs.Lengths.{content-items, room-enough, room-length}
+use Rattle.content.proofs.OneItem.{first-itemBits}
+use Rattle.content.proofs.Packings.{packing-append, packing-set, lastZero-tail}
+
+-- with zero bits after them, however many
+pub packing-read : (its : List Item) (z : List Bool) → allFit its ≡ true → lastZero its ≡ false → allZero z ≡ true → items (packing its ++ z) ≡ holds its
+unfolding packing allFit prepend
+packing-read [] z f h n = items-zero z n
+packing-read (i ∷ its) z f h n =
+    items-item (packing (i ∷ its) ++ z) i (packing its ++ z) (packing-set i its z f h)
+    (ap first (packing-append i its z) ∙ first-itemBits i (and-left (itemFits i) (allFit its) f) (packing its ++ z))
+    ∙ ap (prepend i) (packing-read its z (and-right (itemFits i) (allFit its) f) (lastZero-tail i its h) n)
+
+module _ (its : List Item) (p : packable its ≡ true) where
+  pub packable-fits : allFit its ≡ true
+  unfolding packable
+  packable-fits = and-left (allFit its) (leb (length (packing its)) longest) p
+
+  pub packable-short : length (packing its) ≤ longest
+  unfolding packable
+  packable-short = leb-true (length (packing its)) longest (and-right (allFit its) (leb (length (packing its)) longest) p)
+
+module _ (its : List Item) (w : writable its ≡ true) where
+  pub writable-packable : packable its ≡ true
+  unfolding writable
+  writable-packable = and-left (packable its) (not (lastZero its)) w
+
+  pub writable-last : lastZero its ≡ false
+  unfolding writable
+  writable-last = not-true (lastZero its) (and-right (packable its) (not (lastZero its)) w)
+
+pub length-padded : (its : List Item) → length (padded its) ≡ room (length (packing its))
+unfolding padded
+length-padded its =
+    let n = length (packing its) in
+    let h = room-enough n in
+    let e : n + (room n - n) ≡ room n = omega arith in
+    length-append (packing its) (zeros (room n - n)) ∙ ap (λ (m : ℕ). n + m) (length-replicate (room n - n) false) ∙ e
+
+pub written-is-read : (its : List Item) → writable its ≡ true → content (padded its) ≡ holds its
+unfolding padded
+written-is-read its w =
+    let n = length (packing its) in
+    let e : contentLength (length (padded its)) ≡ true = ap contentLength (length-padded its) ∙ room-length n (packable-short its (writable-packable its w)) in
+    content-items (padded its) e
+    ∙ packing-read its (zeros (room n - n)) (packable-fits its (writable-packable its w)) (writable-last its w) (allZero-zeros (room n - n))

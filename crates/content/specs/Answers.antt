@@ -1,0 +1,54 @@
+-- The code's answers, by the definitions of what is read and written.
+use Prim.Native.Nat.{ℕ}
+use mathlib.Core.Bool.{Bool, true, false, _&&_}
+use mathlib.Core.List.{List, [], _++_}
+use lib.ListN.{length}
+use Rattle.content.specs.Items.{First, item, unfit, Reading, holds, refused}
+use Rattle.content.specs.Packing.{packing, writable}
+use Rattle.content.specs.Held.{startingWith, remaining}
+use Rattle.content.specs.Stored.{filled, listed, wellPlaced}
+use Rattle.content.specs.declared.item.Item.{Item}
+use Rattle.content.specs.declared.items.Items.{Items}
+use Rattle.content.specs.declared.rest.Taken.{Taken}
+use Rattle.content.specs.declared.rest.Taken.the-variants as taken
+use Rattle.content.specs.declared.read.Reading as read
+use Rattle.content.specs.declared.read.ReadAnswer.the-variants as readAnswer
+use Rattle.content.specs.declared.pack.Packed.{Packed}
+use Rattle.content.specs.declared.pack.PackAnswer.the-variants as packAnswer
+
+-- what taking one item answers
+unfoldable pub firstOf : Taken → First
+firstOf (taken.Item i rest) = item i (remaining rest)
+firstOf (taken.Refused n) = unfit n
+
+-- how many bits it leaves
+unfoldable pub leftOf : Taken → ℕ
+leftOf (taken.Item i rest) = rest .left
+leftOf (taken.Refused n) = 0
+
+-- items before those of a reading
+unfoldable pub appended : List Item → Reading → Reading
+appended before (holds its) = holds (before ++ its)
+appended before (refused n) = refused n
+
+-- what the reader answers; on a refusal there are no items
+unfoldable pub readingOf : Reading → read.Reading
+readingOf (holds its) = record { answer = readAnswer.Read; items = filled its }
+readingOf (refused n) = record { answer = readAnswer.Refused n; items = filled [] }
+
+-- items packed: how many bits, and the bits
+unfoldable pub packed : List Item → Packed
+packed its = record { answer = packAnswer.Packed (length (packing its)); content = startingWith (packing its) }
+
+-- what is not packed: the refusal's number and no bits
+unfoldable pub unpacked : ℕ → Packed
+unpacked n = record { answer = packAnswer.Refused n; content = startingWith [] }
+
+-- the items if they may be packed, else refusal 9
+unfoldable pub packedIf : Bool → List Item → Packed
+packedIf true its = packed its
+packedIf false its = unpacked 9
+
+-- what the packer answers
+unfoldable pub packedOf : Items → Packed
+packedOf s = packedIf (wellPlaced s && writable (listed s)) (listed s)

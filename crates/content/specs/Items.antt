@@ -1,0 +1,66 @@
+-- The items that content bits hold: ISO 14819-1 clause 5.5.1; document 01, "Multi-group content".
+use Prim.Native.Nat.{ℕ, zero, suc}
+use mathlib.Core.Bool.{Bool, true, false, _||_}
+use mathlib.Core.List.{List, [], _∷_}
+use lib.ListN.{length, take, drop}
+use lib.Dec.{eqb, ltb}
+use Rattle.bits.specs.Bits.{val, allZero}
+use Rattle.content.specs.Widths.{labelWidth, width, sublabelled}
+use Rattle.content.specs.declared.item.Item.{Item}
+
+-- one item and the bits after it, or the refusal's number
+pub data First : Type 0 where
+  item : Item → List Bool → First
+  unfit : ℕ → First
+
+-- the value after a label
+unfoldable pub valued : ℕ → List Bool → First
+valued label l =
+    elim (ltb (length l) (width label)) [
+      | true ↦ unfit 7
+      | false ↦ item (record { label = label; value = val (take (width label) l) }) (drop (width label) l)
+    ]
+
+-- what follows a label
+unfoldable pub labelled : ℕ → List Bool → First
+labelled label l = elim (eqb label sublabelled) [ true ↦ unfit 8 | false ↦ valued label l ]
+
+-- one item off the front
+unfoldable pub first : List Bool → First
+first l = elim (ltb (length l) labelWidth) [ true ↦ unfit 7 | false ↦ labelled (val (take labelWidth l)) (drop labelWidth l) ]
+
+-- the items that content holds, or the refusal's number
+pub data Reading : Type 0 where
+  holds : List Item → Reading
+  refused : ℕ → Reading
+
+-- an item before those of a reading
+unfoldable pub prepend : Item → Reading → Reading
+prepend i (holds its) = holds (i ∷ its)
+prepend i (refused n) = refused n
+
+-- one item, and then the reading of the rest
+unfoldable pub andThen : First → (List Bool → Reading) → Reading
+andThen (item i rest) next = prepend i (next rest)
+andThen (unfit n) next = refused n
+
+-- all zero: no items; else one item, and then the reading of the rest
+unfoldable pub readBy : (List Bool → Reading) → List Bool → Reading
+readBy next l = elim (allZero l) [ true ↦ holds [] | false ↦ andThen (first l) next ]
+
+-- the reading in at most n steps
+unfoldable pub itemsWithin : ℕ → List Bool → Reading
+itemsWithin zero = λ l. holds []
+itemsWithin (suc n) = readBy (itemsWithin n)
+
+-- the items of content bits, by as many steps as could be needed: read it by its law, `items l ≡ readBy items l` (`items-law`)
+unfoldable pub items : List Bool → Reading
+items l = itemsWithin (suc (length l)) l
+
+-- the content bits of two to five groups
+unfoldable pub contentLength : ℕ → Bool
+contentLength n = eqb n 28 || eqb n 56 || eqb n 84 || eqb n 112
+
+-- the items of a message's whole content
+unfoldable pub content : List Bool → Reading
+content l = elim (contentLength (length l)) [ true ↦ items l | false ↦ refused 1 ]

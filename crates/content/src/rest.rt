@@ -1,0 +1,81 @@
+// Content bits still to be read, and one item taken off their front.
+ghost use mathlib.Core.Path.{_≡_};
+ghost use Prim.Native.Nat.{_-_, _<_, _≤_};
+ghost use lib.ListN.{take, drop};
+ghost use Rattle.bits.specs.Bits.{val, allZero};
+ghost use Rattle.content.specs.Items.{first};
+ghost use Rattle.content.specs.Held.{remaining};
+ghost use Rattle.content.specs.Answers.{firstOf, leftOf};
+use crate::content::Content;
+use crate::item::Item;
+use crate::width::width_of;
+
+// The first `left` of the bits.
+pub struct Rest {
+    pub bits: Content,
+    pub left: usize,
+}
+
+// An item and the bits after it, or the refusal's number.
+pub enum Taken {
+    Item(Item, Rest),
+    Refused(u8),
+}
+
+impl Rest {
+    // Whether no bit is set.
+    pub fn is_zero(self) -> bool
+        requires { ⌜ self .left < 128 ⌝ }
+        ensures { λ r. ⌜ r ≡ allZero (remaining self) ⌝ }
+    {
+        let bits = self.bits;
+        bits.starts_zero(self.left)
+    }
+
+    // The first w bits as a number.
+    fn head(self, w: usize) -> u64
+        requires { ⌜ (w < 64) × (w ≤ self .left) ⌝ }
+        ensures { λ r. ⌜ r ≡ val (take w (remaining self)) ⌝ }
+    {
+        let bits = self.bits;
+        bits.first_bits(w)
+    }
+
+    // The bits after the first w.
+    fn tail(self, w: usize) -> Self
+        requires { ⌜ (w < 64) × (w ≤ self .left) × (self .left < 128) ⌝ }
+        ensures { λ r. ⌜ (remaining r ≡ drop w (remaining self)) × (r .left ≡ self .left - w) ⌝ }
+    {
+        let bits = self.bits;
+        Rest {
+            bits: bits.shifted_left(w),
+            left: self.left - w,
+        }
+    }
+
+    // Takes one item: 7 where its bits are missing, 8 at label 15.
+    pub fn take_item(self) -> Taken
+        requires { ⌜ self .left < 128 ⌝ }
+        ensures { λ r. ⌜ (firstOf r ≡ first (remaining self)) × (leftOf r ≤ self .left) ⌝ }
+    {
+        if self.left < Item::LABEL_WIDTH {
+            return Taken::Refused(7);
+        }
+        let label = self.head(Item::LABEL_WIDTH) as u8;
+        if label == Item::SUBLABELLED {
+            return Taken::Refused(8);
+        }
+        let after = self.tail(Item::LABEL_WIDTH);
+        let w = width_of(label);
+        if after.left < w {
+            return Taken::Refused(7);
+        }
+        Taken::Item(
+            Item {
+                label,
+                value: after.head(w) as u16,
+            },
+            after.tail(w),
+        )
+    }
+}

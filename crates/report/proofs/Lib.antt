@@ -1,0 +1,10 @@
+pub mod Searching
+pub mod Messages
+pub mod Tests
+pub mod Groups
+pub mod Placing
+pub mod Multi
+pub mod Forms
+pub mod Kept
+pub mod WayBack
+pub mod Examples

@@ -1,0 +1,82 @@
+-- What the reading of content says of the report.
+use Prim.Native.Nat.{ℕ, _≤_, _<_, _^_}
+use mathlib.Core.Path.{_≡_, refl, sym, ap, ap₂, subst, _∙_}
+use mathlib.Core.Bool.{Bool, true, false, cond}
+use mathlib.Core.List.{List, [], _∷_}
+use native.Mathlib.Omega.{arith}
+use lib.ListN.{length}
+use lib.Dec.{ltb, eqb}
+use borrow.Author.Tests.{eqb-true, ltb-true}
+use Rattle.bits.proofs.Choice.{and-left, and-right, chosen, passed-over}
+use Rattle.content.specs.declared.item.Item.{Item}
+use Rattle.content.specs.declared.items.Items.{Items}
+use Rattle.content.specs.declared.read.Reading as struct
+use Rattle.content.specs.declared.read.ReadAnswer.the-variants as answer
+use Rattle.content.specs.Widths.{widths, width, sublabelled}
+use Rattle.content.specs.Items.{Reading, holds, refused, content}
+use Rattle.content.specs.Packing.{itemFits, allFit, writable}
+use Rattle.content.specs.Stored.{limit, filled, listed}
+use Rattle.content.specs.Answers.{readingOf}
+use Rattle.content.proofs.AtMost28.{at-most-28}
+use Rattle.content.proofs.ReadIsWritten.{read-is-writable}
+use Rattle.content.proofs.WrittenIsRead.{packable-fits, writable-packable}
+use Rattle.content.proofs.Places.{listed-filled}
+use Rattle.report.specs.Report.{firstWhere, durationOf}
+
+-- content that was read holds the items of the answer
+pub record Held (l : List Bool) (s : Items) : Type 0 where
+  pub its : List Item
+  pub holds-them : content l ≡ holds its
+  pub stored : s ≡ filled its
+
+pub read-held : (l : List Bool) (r : struct.Reading) → r ≡ readingOf (content l) → r .answer ≡ answer.Read → Held l (r .items)
+unfolding readingOf
+read-held l r e a = by-reading (content l) refl
+  where
+    by-reading : (x : Reading) → content l ≡ x → Held l (r .items)
+    by-reading (holds its) h = record { its = its; holds-them = h; stored = ap (λ (y : struct.Reading). y .items) (e ∙ ap readingOf h) }
+    by-reading (refused n) h =
+        let b : answer.Refused n ≡ answer.Read = sym (ap (λ (y : struct.Reading). y .answer) (e ∙ ap readingOf h)) ∙ a in
+        let z : _≡_ {A = ℕ} 0 1 = cc in
+        absurd (omega arith)
+
+-- content that was refused is refused with the answer's number
+pub read-refused : (l : List Bool) (r : struct.Reading) (n : ℕ) → r ≡ readingOf (content l) → r .answer ≡ answer.Refused n → content l ≡ refused n
+unfolding readingOf
+read-refused l r n e a = by-reading (content l) refl
+  where
+    by-reading : (x : Reading) → content l ≡ x → content l ≡ refused n
+    by-reading (holds its) h =
+        let b : answer.Read ≡ answer.Refused n = sym (ap (λ (y : struct.Reading). y .answer) (e ∙ ap readingOf h)) ∙ a in
+        let z : _≡_ {A = ℕ} 0 1 = cc in
+        absurd (omega arith)
+    by-reading (refused m) h =
+        let b : answer.Refused m ≡ answer.Refused n = sym (ap (λ (y : struct.Reading). y .answer) (e ∙ ap readingOf h)) ∙ a in
+        h ∙ ap refused (cc)
+
+-- the items that are read are at most 28, and in range
+module _ (l : List Bool) (s : Items) (h : Held l s) where
+  pub held-listed : listed s ≡ h .its
+  held-listed = ap listed (h .stored) ∙ listed-filled (h .its)
+
+  pub held-count : s .count ≤ limit
+  unfolding filled
+  held-count = subst (λ (n : ℕ). n ≤ limit) (sym (ap (λ (x : Items). x .count) (h .stored))) (at-most-28 l (h .its) (h .holds-them))
+
+  pub held-fit : allFit (listed s) ≡ true
+  held-fit = ap allFit held-listed ∙ packable-fits (h .its) (writable-packable (h .its) (read-is-writable l (h .its) (h .holds-them)))
+
+  pub held-filled : filled (listed s) ≡ s
+  held-filled = ap filled held-listed ∙ sym (h .stored)
+
+-- a duration in range fits its three bits
+pub duration-lt : (its : List Item) → allFit its ≡ true → durationOf its < 8
+unfolding firstWhere allFit itemFits width widths
+duration-lt [] f = omega arith
+duration-lt (i ∷ its) f = by-label (eqb (i .label) 0) refl (duration-lt its (and-right (itemFits i) (allFit its) f))
+  where
+    by-label : (b : Bool) → eqb (i .label) 0 ≡ b → durationOf its < 8 → cond (eqb (i .label) 0) (i .value) (durationOf its) < 8
+    by-label true e k =
+        let v = ltb-true (i .value) (2 ^ width (i .label)) (and-right (ltb (i .label) sublabelled) (ltb (i .value) (2 ^ width (i .label))) (and-left (itemFits i) (allFit its) f)) in
+        subst (λ (n : ℕ). n < 8) (sym (chosen _ _ _ e)) (subst (λ (n : ℕ). i .value < 2 ^ width n) (eqb-true (i .label) 0 e) v)
+    by-label false e k = subst (λ (n : ℕ). n < 8) (sym (passed-over _ _ _ e)) k

@@ -1,0 +1,30 @@
+-- Words in the first cells of a buffer, or no room for them.
+use Prim.Native.Nat.{ℕ, suc, _≤_, _<_}
+use mathlib.Core.Path.{_≡_, refl, sym, ap}
+use mathlib.Core.List.{List, [], _∷_, _++_}
+use native.Mathlib.Omega.{arith}
+use lib.ListN.{length, drop, set}
+use borrow.Rule.Slice.PartMut.{putMid}
+use borrow.Author.Tests.{le-leb, lt-leb}
+use Rattle.bits.proofs.Choice.{chosen, passed-over}
+use Rattle.report.specs.declared.Writing.the-variants.{Written, Refused}
+use Rattle.report.specs.Write.{placing, placed}
+
+-- a word in the first cell
+pub set-first : (out : List ℕ) (x : ℕ) → 1 ≤ length out → set out 0 x ≡ x ∷ drop 1 out
+set-first [] x h = absurd (omega arith)
+set-first (y ∷ out) x h = refl
+
+-- a word in the first cell, and k words in the cells after it
+pub first-and-more : (out : List ℕ) (x m k : ℕ) (ys : List ℕ) → 1 ≤ length out → m ≡ k → putMid 1 m (set out 0 x) ys ≡ (x ∷ ys) ++ drop (suc k) out
+first-and-more [] x m k ys h e = absurd (omega arith)
+first-and-more (y ∷ out) x m k ys h e = ap (λ (n : ℕ). x ∷ (ys ++ drop n out)) e
+
+module _ (ws out : List ℕ) where
+  pub placed-all : length ws ≤ length out → (Written (length ws) ≡ placing ws (length out)) × (ws ++ drop (length ws) out ≡ placed ws out)
+  unfolding placing placed
+  placed-all h = let room = le-leb (length ws) (length out) h in (sym (chosen _ _ _ room), sym (chosen _ _ _ room))
+
+  pub no-room : length out < length ws → (Refused 15 ≡ placing ws (length out)) × (out ≡ placed ws out)
+  unfolding placing placed
+  no-room h = let room = lt-leb (length ws) (length out) h in (sym (passed-over _ _ _ room), sym (passed-over _ _ _ room))

@@ -1,0 +1,42 @@
+-- The reports that a writer takes, the continuity index apart (document 01, "Multi-group content").
+use Prim.Native.Nat.{ℕ}
+use mathlib.Core.Bool.{Bool, _&&_}
+use lib.Dec.{eqb}
+use Rattle.bits.specs.Fields.{fits}
+use Rattle.word.specs.Format.{headPart, headFormat}
+use Rattle.word.specs.Compose.{headValues, singleValues, isIndex}
+use Rattle.content.specs.declared.items.Items.{Items}
+use Rattle.content.specs.Packing.{writable}
+use Rattle.content.specs.Stored.{listed, wellPlaced}
+use Rattle.report.specs.declared.Report.{Report}
+use Rattle.report.specs.declared.Form.{Form}
+use Rattle.report.specs.declared.Form.the-variants.{Single, Multi}
+use Rattle.report.specs.Report.{durationOf, diversionOf}
+
+-- a single-group report: fields in range and no items
+unfoldable pub singleFits : Report → Bool
+singleFits r = fits headFormat (singleValues (r .duration) (r .diversion) (r .head)) && (wellPlaced (r .items) && eqb (r .items .count) 0)
+
+-- the duration and the diversion are those of the items
+unfoldable pub agrees : Report → Bool
+agrees r = eqb (r .duration) (durationOf (listed (r .items))) && eqb (r .diversion) (diversionOf (listed (r .items)))
+
+-- items that can be written, and zero in the unused places
+unfoldable pub itemsFit : Items → Bool
+itemsFit s = wellPlaced s && writable (listed s)
+
+-- a multi-group report: such items, fields in range, duration and diversion that agree with the items
+unfoldable pub multiFits : Report → Bool
+multiFits r = itemsFit (r .items) && (fits headPart (headValues (r .head)) && agrees r)
+
+unfoldable pub fitsBy : Form → Report → Bool
+fitsBy Single r = singleFits r
+fitsBy Multi r = multiFits r
+
+unfoldable pub reportFits : Report → Bool
+reportFits r = fitsBy (r .form) r
+
+-- the continuity index: 0 for a single-group report, 1 to 6 for a multi-group one
+unfoldable pub indexFits : Form → ℕ → Bool
+indexFits Single ci = eqb ci 0
+indexFits Multi ci = isIndex ci

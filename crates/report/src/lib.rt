@@ -1,0 +1,47 @@
+// The report of a message: read from its groups, tested, and written as words.
+mod fits;
+mod read;
+mod record;
+mod write;
+
+use content::items::Items;
+use word::Head;
+
+// A single-group or a multi-group message.
+pub enum Form {
+    Single,
+    Multi,
+}
+
+// What a message says. Its items are by value, at most 28, and unused places are zero.
+pub struct Report {
+    pub form: Form,
+    pub head: Head,
+    pub diversion: u8,
+    pub duration: u8,
+    pub items: Items,
+}
+
+// Whether there is a report.
+pub enum Answer {
+    Read,
+    Refused(u8),
+}
+
+// The answer, and the report beside it: blank on a refusal.
+pub struct Outcome {
+    pub answer: Answer,
+    pub report: Report,
+}
+
+// The number of words written, or the refusal's number.
+pub enum Writing {
+    Written(usize),
+    Refused(u8),
+}
+
+// The number of groups that the packed content takes, or the refusal's number.
+pub enum Packing {
+    Groups(usize),
+    Refused(u8),
+}

@@ -1,0 +1,118 @@
+// From the groups of a message to its report.
+ghost use mathlib.Core.Path.{_≡_};
+ghost use Prim.Native.Nat.{_≤_, _<_};
+ghost use mathlib.Core.Bool.{true};
+ghost use lib.ListN.{take};
+ghost use Rattle.content.specs.Items.{holds, Reading as Content·Reading};
+ghost use Rattle.content.specs.Held.{bitsOf};
+ghost use Rattle.content.specs.Packing.{allFit};
+ghost use Rattle.content.specs.Stored.{limit, filled, listed};
+ghost use Rattle.report.specs.Report.{singleReport, multiReport, blank as Report·blank, durationOf, diversionOf};
+ghost use Rattle.report.specs.Read.{readBits, outcomeOf};
+use crate::Answer;
+use crate::Form;
+use crate::Outcome;
+use crate::Report;
+use content::content::Content;
+use content::items::Items;
+use content::read::ReadAnswer;
+use word::Head;
+
+impl Report {
+    // The most words of a report, and the content bits of all its later groups.
+    pub const WORDS: usize = 5;
+
+    // The report that stands where there is none.
+    pub fn new() -> Self
+        ensures { λ r. ⌜ r ≡ Report·blank ⌝ }
+    {
+        let head = Head {
+            direction: 0,
+            extent: 0,
+            event: 0,
+            location: 0,
+        };
+        Report::single(0, 0, head)
+    }
+
+    // The report of a single-group message.
+    pub fn single(duration: u8, diversion: u8, head: Head) -> Self
+        ensures { λ r. ⌜ r ≡ singleReport duration diversion head ⌝ }
+    {
+        Report {
+            form: Form::Single,
+            head,
+            diversion,
+            duration,
+            items: Items::new(),
+        }
+    }
+
+    // The report of a multi-group message, from its head and the first `length` content bits: refusals 1, 7 and 8 as content is
+    // read.
+    pub fn multi(head: Head, content: Content, length: usize) -> Outcome
+        ensures { λ r. ⌜ r ≡ outcomeOf (readBits head (take length (bitsOf content))) ⌝ }
+    {
+        let reading = content::read::read(content, length);
+        let answer = reading.answer;
+        let items = reading.items;
+        match answer {
+            ReadAnswer::Read => Outcome {
+                answer: Answer::Read,
+                report: of_items(head, items),
+            },
+            ReadAnswer::Refused(n) => Outcome {
+                answer: Answer::Refused(n),
+                report: Report::new(),
+            },
+        }
+    }
+}
+
+// The report of items as content is read.
+fn of_items(head: Head, items: Items) -> Report
+    requires { ⌜ (items .count ≤ limit) × (allFit (listed items) ≡ true) × (filled (listed items) ≡ items) ⌝ }
+    ensures { λ r. ⌜ r ≡ multiReport head (listed items) ⌝ }
+{
+    Report {
+        form: Form::Multi,
+        head,
+        diversion: diversion(items),
+        duration: duration(items) as u8,
+        items,
+    }
+}
+
+// The value of the first label 0 item, or 0.
+pub fn duration(items: Items) -> u16
+    requires { ⌜ items .count ≤ limit ⌝ }
+    ensures { λ r. ⌜ r ≡ durationOf (listed items) ⌝ }
+{
+    let n = items.count;
+    let mut i = 0;
+    while i < n {
+        let item = items.places[i];
+        if item.label == 0 {
+            return item.value;
+        }
+        i += 1;
+    }
+    0
+}
+
+// 1 if an item is label 1 value 5, else 0.
+pub fn diversion(items: Items) -> u8
+    requires { ⌜ items .count ≤ limit ⌝ }
+    ensures { λ r. ⌜ r ≡ diversionOf (listed items) ⌝ }
+{
+    let n = items.count;
+    let mut i = 0;
+    while i < n {
+        let item = items.places[i];
+        if (item.label == 1) & (item.value == 5) {
+            return 1;
+        }
+        i += 1;
+    }
+    0
+}
