@@ -47,7 +47,7 @@ fn multi_report_fits(r: Report) -> bool
 }
 
 // Whether the items can be written and the unused places are zero.
-pub fn items_fit(items: Items) -> bool
+fn items_fit(items: Items) -> bool
     ensures { λ b. ⌜ b ≡ itemsFit items ⌝ }
 {
     let packed = pack(items);
@@ -59,7 +59,7 @@ pub fn items_fit(items: Items) -> bool
 }
 
 // Whether the continuity index is one for the form.
-pub fn index_fits(form: Form, ci: u8) -> bool
+pub(crate) fn index_fits(form: Form, ci: u8) -> bool
     ensures { λ b. ⌜ b ≡ indexFits form ci ⌝ }
 {
     match form {

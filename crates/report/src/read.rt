@@ -84,7 +84,7 @@ fn of_items(head: Head, items: Items) -> Report
 }
 
 // The value of the first label 0 item, or 0.
-pub fn duration(items: Items) -> u16
+pub(crate) fn duration(items: Items) -> u16
     requires { ⌜ items .count ≤ limit ⌝ }
     ensures { λ r. ⌜ r ≡ durationOf (listed items) ⌝ }
 {
@@ -101,7 +101,7 @@ pub fn duration(items: Items) -> u16
 }
 
 // 1 if an item is label 1 value 5, else 0.
-pub fn diversion(items: Items) -> u8
+pub(crate) fn diversion(items: Items) -> u8
     requires { ⌜ items .count ≤ limit ⌝ }
     ensures { λ r. ⌜ r ≡ diversionOf (listed items) ⌝ }
 {

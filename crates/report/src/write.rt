@@ -72,7 +72,7 @@ fn write_multi(r: Report, ci: u8, out: &mut [u64]) -> Writing
 }
 
 // The later groups that packed items take.
-pub fn later_groups(answer: PackAnswer) -> usize
+pub(crate) fn later_groups(answer: PackAnswer) -> usize
     ensures { λ n. ⌜ n ≡ laterGroups answer ⌝ }
 {
     match answer {
