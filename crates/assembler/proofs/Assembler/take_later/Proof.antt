@@ -1,0 +1,44 @@
+-- By whether a message is open.
+use mathlib.Core.Path.{sym, ap, _∙_}
+use Rattle.assembler.specs.declared.Assembler.{Assembler}
+use Rattle.assembler.specs.declared.Answer.the-variants.{Refused}
+use Rattle.transmission.specs.Step.{later}
+use Rattle.assembler.specs.Held.{stateOf, held}
+use Rattle.assembler.specs.Fits.{fits}
+use Rattle.assembler.specs.Answers.{readReport, answerOf, reportIn, given, withoutReport}
+use borrow.Author.Needs.{needs}
+use Rattle.assembler.proofs.Assembler.take_later.Statement.{statement}
+use Rattle.assembler.proofs.Assembler.take_later.Tie as tie
+
+enum-told : tie.Need-enum-told
+enum-told c = search needs
+
+without-report-requires : tie.Need-without-report-requires
+without-report-requires c κs = search needs
+
+enum-known-self : tie.Need-enum-known-self
+enum-known-self c = search needs
+
+later-requires : tie.Need-later-requires
+unfolding fits
+later-requires c κs = ap fits (sym (c .before .self .given .1)) ∙ c .before .before .before .pre
+
+returns : tie.Need-returns
+unfolding later stateOf held answerOf reportIn
+returns c =
+    let a = c .before .before .before .args in
+    let none = c .before .enum-told .given .1 in
+    c .without-report .ensures
+    ∙ ap (λ (x : Assembler). withoutReport x (Refused 5)) none
+    ∙ sym (ap (λ (x : Assembler). given (later readReport (stateOf x) (a .ci) (a .second) (a .gsi) (a .content))) none)
+
+returns-2 : tie.Need-returns-2
+returns-2 c =
+    let a = c .before .before .before .before .args in
+    c .later .ensures
+    ∙ sym (ap (λ (x : Assembler). given (later readReport (stateOf x) (a .ci) (a .second) (a .gsi) (a .content))) (c .before .before .self .given .1))
+
+pub take-later-spec : {M : Type 1} → statement M
+take-later-spec =
+    tie.close
+    (tie.spec enum-told without-report-requires enum-known-self later-requires returns returns-2)

@@ -1,0 +1,10 @@
+pub mod Holding
+pub mod Turns
+pub mod Joins
+pub mod Outcomes
+pub mod CallSteps
+pub mod Refusals
+pub mod Demand3
+pub mod Reached
+pub mod Examples
+pub mod OldFault

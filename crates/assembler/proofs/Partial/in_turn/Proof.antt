@@ -1,0 +1,22 @@
+-- By whether a later group was taken before.
+use mathlib.Core.Path.{sym}
+use native.Mathlib.Numerals.{add-one}
+use Rattle.assembler.proofs.Turns.{first-turn, next-turn}
+use borrow.Author.Needs.{needs}
+use Rattle.assembler.proofs.Partial.in_turn.Statement.{statement}
+use Rattle.assembler.proofs.Partial.in_turn.Tie as tie
+
+cast-result : tie.Need-cast-result
+cast-result c = search needs
+
+add-result : tie.Need-add-result
+add-result c = search needs
+
+returns : tie.Need-returns
+returns c = sym (first-turn _ _ _ (c .if1 .taken))
+
+returns-2 : tie.Need-returns-2
+returns-2 c = rw add-one (sym (next-turn _ _ _ (c .before .if1 .left)))
+
+pub in-turn-spec : {M : Type 1} → statement M
+in-turn-spec = tie.close (tie.spec cast-result add-result returns returns-2)

@@ -1,0 +1,54 @@
+-- One content before the other.
+use mathlib.Core.Path.{ap, _∙_}
+use lib.ListN.{take}
+use Prim.Native.Nat.{_+_, _*_}
+use Rattle.content.specs.declared.content.Content.{Content}
+use Rattle.content.specs.Held.{bitsOf}
+use Rattle.content.specs.Packing.{groupBits}
+use Rattle.assembler.specs.Held.{contentsOf}
+use Rattle.assembler.specs.Joining.{groupBefore, putBefore}
+use Rattle.assembler.proofs.Joins.{put-before}
+use borrow.Author.Needs.{needs}
+use Rattle.assembler.proofs.join.joined.Statement.{statement}
+use Rattle.assembler.proofs.join.joined.Tie as tie
+
+new-requires : tie.Need-new-requires
+new-requires c κs = search needs
+
+prefixed-requires : tie.Need-prefixed-requires
+prefixed-requires c κs = search needs
+
+before-requires : tie.Need-before-requires
+before-requires c κs = search needs
+
+before-requires-2 : tie.Need-before-requires-2
+before-requires-2 c κs = search needs
+
+before-requires-3 : tie.Need-before-requires-3
+before-requires-3 c κs = search needs
+
+returns : tie.Need-returns
+unfolding contentsOf groupBefore
+returns c =
+    let a = c .before .before .before .before .before .args in
+    let p = a .p in
+    let n = p .count in
+    let start = c .before .before .before .before .new .result in
+    ap (λ (x : Content). take (groupBits * (n + 1)) (bitsOf x))
+    (c .before4 .ensures
+    ∙ ap (putBefore n 0 (p .first))
+    (c .before .before3 .ensures
+    ∙ ap (putBefore n 1 (p .second))
+    (c .before .before .before2 .ensures ∙ ap (putBefore n 2 (p .third)) (c .before .before .before .prefixed .ensures))))
+    ∙ put-before start n (p .first) (p .second) (p .third) (a .content) (c .before .before .before .before .before .pre)
+
+pub joined-spec : {M : Type 1} → statement M
+joined-spec =
+    tie.close
+    (tie.spec
+    new-requires
+    prefixed-requires
+    before-requires
+    before-requires-2
+    before-requires-3
+    returns)

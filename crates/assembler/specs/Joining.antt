@@ -1,0 +1,18 @@
+-- The contents of later groups in one run of bits, as the code joins them.
+use Prim.Native.Nat.{ℕ, _-_}
+use mathlib.Core.Bool.{cond}
+use mathlib.Core.List.{_++_}
+use lib.ListN.{take}
+use lib.Dec.{ltb}
+use Rattle.bits.specs.Bits.{bits}
+use Rattle.content.specs.declared.content.Content.{Content}
+use Rattle.content.specs.Packing.{groupBits}
+use Rattle.content.specs.Held.{bitsOf, contentOf}
+
+-- the content of a group before other content bits
+unfoldable pub groupBefore : ℕ → Content → Content
+groupBefore content others = contentOf (bits groupBits content ++ take (128 - groupBits) (bitsOf others))
+
+-- the content at a place before others, if so many places are in use
+unfoldable pub putBefore : ℕ → ℕ → ℕ → Content → Content
+putBefore count place content others = cond (ltb place count) (groupBefore content others) others

@@ -1,0 +1,15 @@
+pub mod Words
+pub mod Formed
+pub mod Steps
+pub mod Heard
+pub mod OneMessage
+pub mod Losses
+pub mod FewLost
+pub mod Spacing
+pub mod Demand3
+pub mod Samples
+pub mod Example
+pub mod FiveNeeded
+pub mod Refuted
+pub mod Kept
+pub mod Reached

@@ -1,0 +1,7 @@
+pub mod State
+pub mod Step
+pub mod Calls
+pub mod Message
+pub mod Transmission
+pub mod Demand3
+pub mod Reachable
