@@ -1,0 +1,69 @@
+-- The bytes before i have entered the register.
+use Prim.Native.Nat.{ℕ, _-_, _≤_}
+use native.Mathlib.Numerals.{add-one}
+use native.Mathlib.Omega.{arith}
+use mathlib.Core.Path.{_≡_, refl, ap, _∙_}
+use mathlib.Core.List.{List}
+use lib.ListN.{length, take, getD}
+use lib.Seq.{take-all}
+use lib.Bits.{bitXor}
+use Rattle.bits.specs.Bits.{bits}
+use Rattle.bits.specs.Fields.{flat}
+use Rattle.crc.specs.Register.{entered, checkWord}
+use Rattle.crc.proofs.ByteStep.{byte-more}
+use Rattle.crc.proofs.check_word.Statement.{statement}
+use Rattle.crc.proofs.check_word.Tie as tie
+
+abbrev Inv-loop : tie.InvT-loop
+Inv-loop s register₀ i₀ register i = (i ≤ length s) × (register ≡ entered 0xFFFF (flat 8 (take i s)))
+
+abbrev μ-loop : tie.MeasureT-loop
+μ-loop s register₀ i₀ register i = length s - i
+
+loop-holds : tie.Need-loop-holds Inv-loop μ-loop
+unfolding entered flat
+loop-holds c = (omega arith, refl)
+
+shared-slice-read-with-byte : tie.Need-shared-slice-read-with-byte Inv-loop μ-loop
+shared-slice-read-with-byte c = omega arith
+
+with-byte-requires : tie.Need-with-byte-requires Inv-loop μ-loop
+with-byte-requires c κs = tt
+
+add-i : tie.Need-add-i Inv-loop μ-loop
+add-i c = omega arith
+
+loop-less : tie.Need-loop-less Inv-loop μ-loop
+loop-less c = omega arith
+
+loop-again : tie.Need-loop-again Inv-loop μ-loop
+loop-again c =
+    let s = c .before .before .before .before .before .args .s .now in
+    let l = c .before .before .before .loop in (
+      omega arith,
+      rw add-one
+          (c .with-byte .ensures
+          ∙ ap (λ (r : ℕ). entered r (bits 8 (getD s (l .i) 0))) (l .inv .1)
+          ∙ byte-more s (l .i) 0xFFFF (c .before .before .loop-test .taken)),
+    )
+
+returns : tie.Need-returns Inv-loop μ-loop
+unfolding checkWord
+returns c =
+    let s = c .before .before .before .args .s .now in
+    let l = c .before .loop in
+    ap (λ (r : ℕ). bitXor r 0xFFFF) (l .inv .1 ∙ ap (λ (t : List ℕ). entered 0xFFFF (flat 8 t)) (take-all (l .i) s (c .loop-test .left)))
+
+pub check-word-spec : {M : Type 1} → statement M
+check-word-spec =
+    tie.close
+    (tie.spec
+    Inv-loop
+    μ-loop
+    loop-holds
+    shared-slice-read-with-byte
+    with-byte-requires
+    add-i
+    loop-less
+    loop-again
+    returns)

@@ -1,0 +1,53 @@
+-- What the reader answers, by the refusals of its two parts.
+use Prim.Native.Nat.{ℕ, zero, suc, _-_, _≤_}
+use native.Mathlib.Omega.{arith}
+use mathlib.Core.Path.{_≡_, refl, sym, ap, _∙_}
+use mathlib.Core.List.{List, _++_}
+use lib.ListN.{length, take, drop, length-drop}
+use lib.Seq.{take-all}
+use lib.Dec.{leb}
+use borrow.Author.Tests.{leb-true}
+use Rattle.bits.specs.Bits.{allZero}
+use Rattle.bits.specs.Fields.{flat, words}
+use Rattle.fig.specs.declared.Fig.{Fig}
+use Rattle.fig.specs.declared.Reading.{Reading}
+use Rattle.fig.specs.declared.Reading.the-variants.{Taken, Refused}
+use Rattle.fig.specs.Format.{wordWidth}
+use Rattle.fig.specs.Read.{countIn, padding, lengthFits, dataRefusal, unless, readData, wordsAfter}
+use Rattle.fig.proofs.Checks.{three}
+
+pub none : (n : ℕ) (r : Reading) → n ≡ 0 → unless n r ≡ r
+unfolding unless
+none n r e = ap (λ (m : ℕ). unless m r) e
+
+pub refused : (n : ℕ) (r : Reading) → (n ≡ 0 → ⊥) → unless n r ≡ Refused n
+unfolding unless
+refused zero r h = absurd (h refl)
+refused (suc n) r h = refl
+
+-- data that is not refused has room
+pub room : (w : ℕ) (bytes : List ℕ) (n : ℕ) → dataRefusal w bytes n ≡ 0 → countIn w bytes ≤ n
+unfolding dataRefusal
+room w bytes n e = leb-true (countIn w bytes) n (three (lengthFits w (length bytes)) (allZero (padding w bytes)) (leb (countIn w bytes) n) e .2)
+
+-- w is the width that the code has found
+module _ (fig : Fig) (bytes out : List ℕ) (w : ℕ) (e : w ≡ wordWidth (fig .d1)) where
+  pub data-taken : dataRefusal w bytes (length out) ≡ 0 → Taken fig (countIn w bytes) ≡ readData fig bytes (length out)
+  unfolding readData
+  data-taken h =
+      ap (λ (v : ℕ). Taken fig (countIn v bytes)) e
+      ∙ sym (none (dataRefusal (wordWidth (fig .d1)) bytes (length out)) _ (ap (λ (v : ℕ). dataRefusal v bytes (length out)) (sym e) ∙ h))
+
+  pub data-refused : (n : ℕ) → n ≡ dataRefusal w bytes (length out) → (n ≡ 0 → ⊥) → Refused n ≡ readData fig bytes (length out)
+  unfolding readData
+  data-refused n g h =
+      let t = Taken fig (countIn (wordWidth (fig .d1)) bytes) in
+      sym (refused n t h) ∙ ap (λ (m : ℕ). unless m t) (g ∙ ap (λ (v : ℕ). dataRefusal v bytes (length out)) e)
+
+  pub data-words : words w (countIn w bytes) (flat 8 bytes) ++ drop (countIn w bytes) out ≡ wordsAfter (Taken fig (countIn w bytes)) bytes out
+  unfolding wordsAfter
+  data-words = ap (λ (v : ℕ). words v (countIn w bytes) (flat 8 bytes) ++ drop (countIn w bytes) out) e
+
+-- the part of a FIG that the code lends on is the data
+pub data-part : (s : List ℕ) → take (length s - 2) (drop 2 s) ≡ drop 2 s
+data-part s = take-all (length s - 2) (drop 2 s) (omega (arith, length-drop 2 s))

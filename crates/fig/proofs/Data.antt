@@ -1,0 +1,46 @@
+-- The words and the padding of some data bytes.
+use Prim.Native.Nat.{ℕ, _+_, _*_, _%_, _≤_}
+use native.Mathlib.Nat.{div-add-mod'}
+use native.Mathlib.Omega.{arith}
+use mathlib.Core.Path.{_≡_, sym, ap}
+use mathlib.Core.Bool.{Bool, true, false, cond}
+use mathlib.Core.List.{List}
+use lib.ListN.{length, length-drop}
+use lib.Seq.{take-all}
+use lib.Dec.{leb, eqb, lit≤}
+use Rattle.bits.specs.Bits.{allZero}
+use Rattle.bits.specs.Fields.{flat}
+use Rattle.bits.specs.Overlay.{stretch}
+use Rattle.bits.proofs.Fields.{length-flat}
+use Rattle.fig.specs.Format.{wordWidth}
+use Rattle.fig.specs.Read.{countIn, padding, lengthFits, must, dataRefusal}
+
+module _ (w : ℕ) (bytes : List ℕ) where
+  -- the words and the padding are all of the bytes
+  pub all-bits : countIn w bytes * w + length bytes * 8 % w ≡ length bytes * 8
+  all-bits = div-add-mod' (length bytes * 8) w
+
+  pub padding-length : length (padding w bytes) ≡ length bytes * 8 % w
+  padding-length = omega (arith, length-drop (countIn w bytes * w) (flat 8 bytes), length-flat 8 bytes, div-add-mod' (length bytes * 8) w)
+
+  -- the padding is the last bits
+  pub padding-stretch : stretch (countIn w bytes * w) (length bytes * 8 % w) (flat 8 bytes) ≡ padding w bytes
+  padding-stretch = take-all (length bytes * 8 % w) (padding w bytes) (omega (arith, padding-length))
+
+  -- the checks as the code makes them
+  pub checks : (room : ℕ) → dataRefusal w bytes room ≡
+      must (lengthFits w (length bytes)) 1
+      (must (allZero (stretch (countIn w bytes * w) (length bytes * 8 % w) (flat 8 bytes))) 3
+      (must (leb (countIn w bytes) room) 15
+      0))
+  unfolding dataRefusal
+  checks room = ap (λ (l : List Bool). must (lengthFits w (length bytes)) 1 (must (allZero l) 3 (must (leb (countIn w bytes) room) 15 0))) (sym padding-stretch)
+
+-- a word has 16 bits or more, and 37 or fewer
+either : (t : Bool) → (16 ≤ cond t 37 16) × (cond t 37 16 ≤ 37)
+either true = (lit≤ tt, lit≤ tt)
+either false = (lit≤ tt, lit≤ tt)
+
+pub width-bounds : (d1 : ℕ) → (16 ≤ wordWidth d1) × (wordWidth d1 ≤ 37)
+unfolding wordWidth
+width-bounds d1 = either (eqb d1 0)

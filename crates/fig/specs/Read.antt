@@ -1,0 +1,75 @@
+-- What some bytes say as a FIG 5/1 (document 01, "FIG 5/1"; source 000, clause 5).
+use Prim.Native.Nat.{ℕ, zero, suc, _-_, _*_, _/_, _%_}
+use mathlib.Core.Bool.{Bool, _&&_, cond}
+use mathlib.Core.List.{List, _++_}
+use lib.ListN.{length, getD, take, drop}
+use lib.Dec.{leb, eqb}
+use Rattle.bits.specs.Bits.{allZero}
+use Rattle.bits.specs.Fields.{flat, words, unpack}
+use Rattle.fig.specs.declared.Fig.{Fig}
+use Rattle.fig.specs.declared.Reading.{Reading}
+use Rattle.fig.specs.declared.Reading.the-variants.{Taken, Refused}
+use Rattle.fig.specs.Format.{headerLength, longest, figFormat, wordWidth}
+
+-- the header's fields: type, count, D1, D2, TCId, extension
+abbrev pub fields : List ℕ → List ℕ
+fields s = unpack figFormat (flat 8 (take headerLength s))
+
+-- D1 and TCId, from the fields
+abbrev pub figOf : List ℕ → Fig
+figOf f = record { d1 = getD f 2 0; tcid = getD f 4 0 }
+
+-- how many words of w bits some data bytes hold
+abbrev pub countIn : ℕ → List ℕ → ℕ
+countIn w bytes = length bytes * 8 / w
+
+-- the bits after those words
+abbrev pub padding : ℕ → List ℕ → List Bool
+padding w bytes = drop (countIn w bytes * w) (flat 8 bytes)
+
+-- a data length of n bytes: one word or more, and 0 to 7 bits of padding (clause 5, "Padding")
+abbrev pub lengthFits : ℕ → ℕ → Bool
+lengthFits w n = leb 1 (n * 8 / w) && leb (n * 8 % w) 7
+
+-- a check, the refusal where it fails, and what the later checks give; 0 is no refusal
+abbrev pub must : Bool → ℕ → ℕ → ℕ
+must holds number later = cond holds later number
+
+-- the header, by its fields: type 5, the count of the bytes that follow the first, extension 1, D2 = 0
+unfoldable pub fieldRefusal : ℕ → List ℕ → ℕ
+fieldRefusal following f =
+    must (eqb (getD f 0 0) 5) 2
+    (must (eqb (getD f 1 0) following) 1
+    (must (eqb (getD f 5 0) 1) 2
+    (must (eqb (getD f 3 0) 0) 3
+    0)))
+
+-- 2 to 30 bytes, and then the header
+unfoldable pub headRefusal : List ℕ → ℕ
+headRefusal s = must (leb headerLength (length s) && leb (length s) longest) 1 (fieldRefusal (length s - 1) (fields s))
+
+-- the data bytes: their length, zero padding, room for the words
+unfoldable pub dataRefusal : ℕ → List ℕ → ℕ → ℕ
+dataRefusal w bytes room =
+    must (lengthFits w (length bytes)) 1
+    (must (allZero (padding w bytes)) 3
+    (must (leb (countIn w bytes) room) 15
+    0))
+
+-- what is read, unless there is a refusal
+unfoldable pub unless : ℕ → Reading → Reading
+unless zero r = r
+unless (suc n) r = Refused (suc n)
+
+-- the words of a FIG, by its data bytes
+unfoldable pub readData : Fig → List ℕ → ℕ → Reading
+readData fig bytes room = unless (dataRefusal (wordWidth (fig .d1)) bytes room) (Taken fig (countIn (wordWidth (fig .d1)) bytes))
+
+-- a FIG read into a buffer with room for so many words
+unfoldable pub readFig : List ℕ → ℕ → Reading
+readFig s room = unless (headRefusal s) (readData (figOf (fields s)) (drop headerLength s) room)
+
+-- the buffer afterwards: the first cells hold the words and later cells stay; a refusal leaves it
+unfoldable pub wordsAfter : Reading → List ℕ → List ℕ → List ℕ
+wordsAfter (Taken fig n) bytes out = words (wordWidth (fig .d1)) n (flat 8 bytes) ++ drop n out
+wordsAfter (Refused n) bytes out = out
