@@ -1,9 +1,8 @@
 -- Calls of the code beside those of the definitions: the same states, the same answers.
 use Prim.Native.Nat.{ℕ}
-use mathlib.Core.Path.{_≡_, refl, sym, ap, ap₂, subst, _∙_}
+use mathlib.Core.Path.{_≡_, refl, sym, ap, _∙_}
 use mathlib.Core.Bool.{true}
 use mathlib.Core.List.{List, [], _∷_}
-use Rattle.bits.proofs.Choice.{chosen}
 use Rattle.word.specs.declared.Word.{Word}
 use Rattle.report.specs.declared.Report.{Report}
 use Rattle.report.specs.Report.{singleReport}

@@ -1,7 +1,6 @@
 -- The worked words of document 01, computed from the promise of the call.
 use mathlib.Core.Path.{_≡_, refl}
-use mathlib.Core.Bool.{true, false}
-use mathlib.Core.List.{List, [], _∷_}
+use mathlib.Core.List.{[], _∷_}
 use Rattle.bits.specs.Bits.{bit, num, bits, val, allZero}
 use Rattle.bits.specs.Fields.{flat, unpack, fits as inRange}
 use Rattle.word.specs.declared.Head.{Head}

@@ -1,7 +1,7 @@
 -- What the reading of a whole message says of the call's answer.
 use Prim.Native.Nat.{ℕ}
 use native.Mathlib.Omega.{arith}
-use mathlib.Core.Path.{_≡_, refl, sym, ap, _∙_}
+use mathlib.Core.Path.{_≡_, sym, ap, _∙_}
 use Rattle.report.specs.declared.Outcome.{Outcome}
 use Rattle.report.specs.declared.Answer.the-variants.{Read, Refused}
 use Rattle.report.specs.Read.{Message, report, refusal, outcomeOf}

@@ -1,11 +1,11 @@
 -- Refusal 9 comes before all else, and leaves the state: calls with numbers that are no words change nothing.
 use Prim.Native.Nat.{ℕ, _≤_, _<_}
-use mathlib.Core.Path.{_≡_, refl, sym, ap, subst, _∙_}
+use mathlib.Core.Path.{_≡_, refl, sym, ap, _∙_}
 use mathlib.Core.Bool.{Bool, true, false, cond}
 use mathlib.Core.List.{List, [], _∷_}
 use lib.Dec.{ltb}
 use borrow.Author.Tests.{ltb-true, ltb-false, le-leb}
-use Rattle.bits.proofs.Choice.{chosen, passed-over}
+use Rattle.bits.proofs.Choice.{passed-over}
 use Rattle.word.specs.Format.{limit}
 use Rattle.word.specs.Kind.{kindOf}
 use Rattle.transmission.specs.Step.{stepBy, step}
@@ -17,7 +17,7 @@ use Rattle.assembler.specs.Fits.{fits}
 use Rattle.assembler.specs.Answers.{answerOf, reportIn, withoutReport}
 use Rattle.assembler.specs.Step.{stepOf}
 use Rattle.assembler.specs.Calls.{after}
-use Rattle.assembler.proofs.CallSteps.{kept, next-fits}
+use Rattle.assembler.proofs.CallSteps.{kept}
 
 -- a state that no calls reach
 pub unreached-refused : (a : Assembler) (n : ℕ) → fits a ≡ false → stepOf a n ≡ withoutReport a (Refused 9)

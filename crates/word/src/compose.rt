@@ -56,7 +56,7 @@ impl Word {
     }
 }
 
-// A word handed on whole, if what stands above its lowest unit - 1 is x.
+// The number itself, if x is what it has above its lowest bits, those below unit.
 fn whole(n: u64, unit: u64, x: u64) -> Composed
     requires { ⌜ 0 < unit ⌝ }
     ensures { λ r. ⌜ r ≡ numberIf (eqb (n / unit) x) n ⌝ }

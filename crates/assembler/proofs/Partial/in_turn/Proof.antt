@@ -1,5 +1,8 @@
 -- By whether a later group was taken before.
-use mathlib.Core.Path.{sym}
+use Prim.Native.Nat.{ℕ}
+use mathlib.Core.Path.{sym, ap, _∙_}
+use mathlib.Core.Bool.{_&&_}
+use lib.Dec.{eqb}
 use native.Mathlib.Numerals.{add-one}
 use Rattle.assembler.proofs.Turns.{first-turn, next-turn}
 use borrow.Author.Needs.{needs}
@@ -16,7 +19,9 @@ returns : tie.Need-returns
 returns c = sym (first-turn _ _ _ (c .if1 .taken))
 
 returns-2 : tie.Need-returns-2
-returns-2 c = rw add-one (sym (next-turn _ _ _ (c .before .if1 .left)))
+returns-2 c =
+    let a = c .before .before .before .args in
+    ap (λ (n : ℕ). eqb (a .second) 0 && eqb (a .self .gsi) n) (add-one (a .gsi)) ∙ sym (next-turn (a .self) (a .second) (a .gsi) (c .before .if1 .left))
 
 pub in-turn-spec : {M : Type 1} → statement M
 in-turn-spec = tie.close (tie.spec cast-result add-result returns returns-2)
