@@ -77,7 +77,7 @@ module _ (ci : ℕ) (r : Report) (sized : length (r .items .places) ≡ limit) w
   unfolding itemsFit
   items-are f = filled-listed (r .items) sized (and-left (wellPlaced (r .items)) (writable (listed (r .items))) f)
 
-  multi-is-report : multiFits r ≡ true → r .form ≡ form.Multi → multiReport (r .head) (listed (r .items)) ≡ r
+  pub multi-is-report : multiFits r ≡ true → r .form ≡ form.Multi → multiReport (r .head) (listed (r .items)) ≡ r
   unfolding multiFits agrees
   multi-is-report f e =
       let its = listed (r .items) in
@@ -88,7 +88,7 @@ module _ (ci : ℕ) (r : Report) (sized : length (r .items .places) ≡ limit) w
       let fo = sym e in
       λ i. record { form = fo i; head = r .head; diversion = di i; duration = du i; items = ite i }
 
-  single-is-report : singleFits r ≡ true → r .form ≡ form.Single → singleReport (r .duration) (r .diversion) (r .head) ≡ r
+  pub single-is-report : singleFits r ≡ true → r .form ≡ form.Single → singleReport (r .duration) (r .diversion) (r .head) ≡ r
   single-is-report f e =
       let none = no-items (r .items) (single-none r f) in
       let ite : filled [] ≡ r .items = ap filled (sym none) ∙ items-are (single-items r f) in

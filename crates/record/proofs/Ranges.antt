@@ -1,0 +1,35 @@
+-- What the ranges of a record's bytes say.
+use Prim.Native.Nat.{ℕ, zero, suc, _≤_, _<_}
+use mathlib.Core.Path.{_≡_, refl, sym, subst, _∙_}
+use mathlib.Core.Bool.{Bool, true, false}
+use mathlib.Core.List.{List}
+use native.Mathlib.Omega.{arith}
+use lib.Dec.{leb, eqb}
+use borrow.Author.Tests.{leb-true, eqb-true, eqb-false, ne-eqb}
+use Rattle.bits.proofs.Choice.{and-left, and-right, passed-over}
+use Rattle.record.specs.Layout.{recordSize, byteAt, groupsIn}
+use Rattle.record.specs.WellFormed.{lows, highs, byteFits, allBelow, rangesFit, restFits, wellFormed}
+
+below : {j n : ℕ} → (j ≡ n → ⊥) → j < suc n → j < n
+below {j} {n} ne h = omega arith
+
+pub allBelow-at : (p : ℕ → Bool) (n j : ℕ) → allBelow p n ≡ true → j < n → p j ≡ true
+unfolding allBelow
+allBelow-at p zero j h k = absurd (omega arith)
+allBelow-at p (suc n) j h k = by-test (eqb j n) refl (allBelow-at p n j (and-left (allBelow p n) (p n) h))
+  where
+    by-test : (b : Bool) → eqb j n ≡ b → (j < n → p j ≡ true) → p j ≡ true
+    by-test true e before = subst (λ (i : ℕ). p i ≡ true) (sym (eqb-true j n e)) (and-right (allBelow p n) (p n) h)
+    by-test false e before = before (below (eqb-false j n e) k)
+
+-- a used record has one to five groups
+pub groups-range : (r : List ℕ) → rangesFit r ≡ true → (byteAt r 0 ≡ 0 → ⊥) → (1 ≤ groupsIn r) × (groupsIn r ≤ 5)
+unfolding rangesFit byteFits lows highs
+groups-range r h used =
+    let fit = allBelow-at (λ j. byteFits (byteAt r 0) j (byteAt r j)) recordSize 1 h (omega arith) in
+    let both = sym (passed-over _ _ _ (ne-eqb (byteAt r 0) 0 used)) ∙ fit in
+    (leb-true 1 (groupsIn r) (and-left (leb 1 (groupsIn r)) (leb (groupsIn r) 5) both), leb-true (groupsIn r) 5 (and-right (leb 1 (groupsIn r)) (leb (groupsIn r) 5) both))
+
+pub ranges-of : (r : List ℕ) → wellFormed r ≡ true → rangesFit r ≡ true
+unfolding wellFormed
+ranges-of r h = and-left (rangesFit r) (restFits r) h

@@ -1,0 +1,86 @@
+-- The ways out of the functions on a record.
+use Prim.Native.Nat.{ℕ, _≤_}
+use mathlib.Core.Path.{_≡_, sym, ap, _∙_}
+use mathlib.Core.Bool.{Bool, true, false}
+use mathlib.Core.List.{List}
+use native.Mathlib.Omega.{arith}
+use lib.ListN.{take}
+use lib.Seq.{take-take}
+use borrow.Author.Tests.{eq-eqb, ne-eqb}
+use Rattle.bits.specs.Bits.{num}
+use Rattle.bits.specs.Fields.{flat}
+use Rattle.bits.proofs.Choice.{chosen, passed-over}
+use Rattle.content.specs.declared.content.Content.{Content}
+use Rattle.content.specs.Held.{bitsOf}
+use Rattle.content.specs.Packing.{longest}
+use Rattle.report.specs.declared.Outcome.{Outcome}
+use Rattle.report.specs.declared.Answer.the-variants as message
+use Rattle.report.specs.Report.{singleReport}
+use Rattle.report.specs.Read.{Message, report, refusal, readBits, outcomeOf}
+use Rattle.record.specs.declared.Service.{Service}
+use Rattle.record.specs.declared.Answer.the-variants.{Free, Read, Refused}
+use Rattle.record.specs.Layout.{freeRecord, byteAt, groupsIn, headIn, durationIn, diversionIn, contentIn, serviceIn, expiryIn}
+use Rattle.record.specs.WellFormed.{contentBits}
+use Rattle.record.specs.Rules.{freedIf}
+use Rattle.record.specs.Reads.{messageIn, nothing, answered, readingIn}
+
+-- freeing one record
+module _ (p : List ℕ → Bool) (r : List ℕ) where
+  pub freed : p r ≡ true → (1 ≡ num (p r)) × (freeRecord ≡ freedIf p r)
+  unfolding freedIf num
+  freed e = (sym (ap num e), sym (chosen _ _ _ e))
+
+  pub unfreed : p r ≡ false → (0 ≡ num (p r)) × (r ≡ freedIf p r)
+  unfolding freedIf num
+  unfreed e = (sym (ap num e), sym (passed-over _ _ _ e))
+
+-- the message of a record by its groups
+module _ (r : List ℕ) where
+  pub single-message : groupsIn r ≡ 1 → messageIn r ≡ report (singleReport (durationIn r) (diversionIn r) (headIn r))
+  unfolding messageIn
+  single-message e = chosen _ _ _ (eq-eqb (groupsIn r) 1 e)
+
+  pub multi-message : (groupsIn r ≡ 1 → ⊥) → messageIn r ≡ readBits (headIn r) (take (contentBits r) (flat 8 (contentIn r)))
+  unfolding messageIn
+  multi-message e = passed-over _ _ _ (ne-eqb (groupsIn r) 1 e)
+
+  -- the first bits of the content as it is held
+  pub held-bits : (x : Content) → groupsIn r ≤ 5 → take longest (bitsOf x) ≡ flat 8 (contentIn r) → take (contentBits r) (bitsOf x) ≡ take (contentBits r) (flat 8 (contentIn r))
+  held-bits x few e =
+      let short : contentBits r ≤ longest = omega arith in
+      sym (take-take (contentBits r) longest (bitsOf x) short) ∙ ap (take (contentBits r)) e
+
+  -- the readings of a free and of a used record
+  pub free-reading : byteAt r 0 ≡ 0 → readingIn r ≡ nothing Free
+  unfolding readingIn
+  free-reading e = chosen _ _ _ (eq-eqb (byteAt r 0) 0 e)
+
+  pub used-reading : (byteAt r 0 ≡ 0 → ⊥) → readingIn r ≡ answered (messageIn r) (serviceIn r) (expiryIn r)
+  unfolding readingIn
+  used-reading e = passed-over _ _ _ (ne-eqb (byteAt r 0) 0 e)
+
+-- the answer to a message by its outcome
+module _ (x : Outcome) (m : Message) (s : Service) (expiry : ℕ) (e : x ≡ outcomeOf m) where
+  pub answered-read : x .answer ≡ message.Read → record { answer = Read; report = x .report; service = s; expiry = expiry } ≡ answered m s expiry
+  unfolding answered outcomeOf
+  answered-read a = by-message m e
+    where
+      by-message : (n : Message) → x ≡ outcomeOf n → record { answer = Read; report = x .report; service = s; expiry = expiry } ≡ answered n s expiry
+      by-message (report y) f = ap (λ (z : Outcome). record { answer = Read; report = z .report; service = s; expiry = expiry }) f
+      by-message (refusal n) f =
+          let b : message.Refused n ≡ message.Read = sym (ap (λ (z : Outcome). z .answer) f) ∙ a in
+          let z : _≡_ {A = ℕ} 0 1 = cc in
+          absurd (omega arith)
+
+  pub answered-refused : (n : ℕ) → x .answer ≡ message.Refused n → nothing (Refused n) ≡ answered m s expiry
+  unfolding answered outcomeOf
+  answered-refused n a = by-message m e
+    where
+      by-message : (y : Message) → x ≡ outcomeOf y → nothing (Refused n) ≡ answered y s expiry
+      by-message (report y) f =
+          let b : message.Read ≡ message.Refused n = sym (ap (λ (z : Outcome). z .answer) f) ∙ a in
+          let z : _≡_ {A = ℕ} 0 1 = cc in
+          absurd (omega arith)
+      by-message (refusal k) f =
+          let b : message.Refused n ≡ message.Refused k = sym a ∙ ap (λ (z : Outcome). z .answer) f in
+          ap (λ (i : ℕ). nothing (Refused i)) (cc)

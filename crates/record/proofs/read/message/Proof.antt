@@ -1,0 +1,80 @@
+use mathlib.Core.Path.{sym, ap, ap₂, _∙_}
+use mathlib.Core.Bool.{Bool}
+use mathlib.Core.List.{List}
+use Rattle.word.specs.declared.Head.{Head}
+use Rattle.report.specs.declared.Report.{Report}
+use Rattle.report.specs.Report.{singleReport}
+use Rattle.report.specs.Read.{report, readBits, outcomeOf}
+use Rattle.record.specs.Layout.{durationIn, diversionIn}
+use Rattle.record.proofs.Steps.{single-message, multi-message, held-bits}
+-- The single-group report, or the items of the content.
+use native.Mathlib.Omega.{arith}
+use lib.ListN.{getD}
+use borrow.Author.Tests.{eqb-false}
+use Rattle.record.proofs.Ranges.{groups-range, ranges-of}
+use borrow.Author.Needs.{needs}
+use Rattle.record.proofs.read.message.Statement.{statement}
+use Rattle.record.proofs.read.message.Tie as tie
+
+shared-slice-read-groups : tie.Need-shared-slice-read-groups
+shared-slice-read-groups c = search needs
+
+cast-groups : tie.Need-cast-groups
+cast-groups c = omega (arith, c .shared-slice-known2 .given 1)
+
+head-requires : tie.Need-head-requires
+head-requires c κs = search needs
+
+shared-slice-read-single : tie.Need-shared-slice-read-single
+shared-slice-read-single c = search needs
+
+shared-slice-read-single-2 : tie.Need-shared-slice-read-single-2
+shared-slice-read-single-2 c = search needs
+
+single-requires : tie.Need-single-requires
+single-requires c κs = search needs
+
+content-requires : tie.Need-content-requires
+content-requires c κs = search needs
+
+sub-multi : tie.Need-sub-multi
+sub-multi c = groups-range (c .before .before .before .before .before .args .r .now) (ranges-of (c .before .before .before .before .before .args .r .now) (c .before .before .before .before .before .pre .1)) (eqb-false (getD (c .before .before .before .before .before .args .r .now) 0 0) 0 (c .before .before .before .before .before .pre .2)) .0
+
+mul-multi : tie.Need-mul-multi
+mul-multi c = omega (arith, groups-range (c .before .before .before .before .before .args .r .now) (ranges-of (c .before .before .before .before .before .args .r .now) (c .before .before .before .before .before .pre .1)) (eqb-false (getD (c .before .before .before .before .before .args .r .now) 0 0) 0 (c .before .before .before .before .before .pre .2)))
+
+multi-requires : tie.Need-multi-requires
+multi-requires c κs = search needs
+
+returns : tie.Need-returns
+unfolding outcomeOf
+returns c =
+    let r = c .before .before .before .before .before .before .before .args .r .now in
+    ap (λ (x : Report). outcomeOf (report x)) (c .single .ensures ∙ ap (singleReport (durationIn r) (diversionIn r)) (c .before .before .before .before .head .ensures))
+    ∙ sym (ap outcomeOf (single-message r (c .before .before .before .if1 .taken)))
+
+returns-2 : tie.Need-returns-2
+returns-2 c =
+    let b = c .before .before .before .before .before .before in
+    let r = b .args .r .now in
+    let range = groups-range r (ranges-of r (b .pre .1)) (eqb-false (getD r 0 0) 0 (b .pre .2)) in
+    c .multi .ensures
+    ∙ ap₂ (λ (h : Head) (l : List Bool). outcomeOf (readBits h l)) (c .before .before .before .head .ensures) (held-bits r (c .before .content .result) (range .1) (c .before .content .ensures))
+    ∙ sym (ap outcomeOf (multi-message r (c .before .before .if1 .left)))
+
+pub message-spec : {M : Type 1} → statement M
+message-spec =
+    tie.close
+    (tie.spec
+    shared-slice-read-groups
+    cast-groups
+    head-requires
+    shared-slice-read-single
+    shared-slice-read-single-2
+    single-requires
+    content-requires
+    sub-multi
+    mul-multi
+    multi-requires
+    returns
+    returns-2)

@@ -1,0 +1,5 @@
+pub mod Layout
+pub mod WellFormed
+pub mod Rules
+pub mod Made
+pub mod Reads

@@ -1,0 +1,33 @@
+-- What a record says (document 01, "The message table").
+use Prim.Native.Nat.{ℕ}
+use mathlib.Core.Bool.{cond}
+use mathlib.Core.List.{List}
+use lib.ListN.{take}
+use lib.Dec.{eqb}
+use Rattle.bits.specs.Fields.{flat}
+use Rattle.report.specs.Report.{singleReport, blank}
+use Rattle.report.specs.Read.{Message, report, refusal, readBits}
+use Rattle.record.specs.declared.Service.{Service}
+use Rattle.record.specs.declared.Reading.{Reading}
+use Rattle.record.specs.declared.Answer.{Answer}
+use Rattle.record.specs.declared.Answer.the-variants.{Free, Read, Refused}
+use Rattle.record.specs.Layout.{isFree, groupsIn, headIn, durationIn, diversionIn, contentIn, serviceIn, expiryIn}
+use Rattle.record.specs.WellFormed.{contentBits}
+
+-- the message of a used record: a single-group report, or the head with the items of the content
+unfoldable pub messageIn : List ℕ → Message
+messageIn r =
+    cond (eqb (groupsIn r) 1) (report (singleReport (durationIn r) (diversionIn r) (headIn r)))
+    (readBits (headIn r) (take (contentBits r) (flat 8 (contentIn r))))
+
+-- an answer with no report
+unfoldable pub nothing : Answer → Reading
+nothing a = record { answer = a; report = blank; service = record { country = 0; ltn = 0; sid = 0 }; expiry = 0 }
+
+-- how the code answers a message of a service
+unfoldable pub answered : Message → Service → ℕ → Reading
+answered (report x) s expiry = record { answer = Read; report = x; service = s; expiry = expiry }
+answered (refusal n) s expiry = nothing (Refused n)
+
+unfoldable pub readingIn : List ℕ → Reading
+readingIn r = cond (isFree r) (nothing Free) (answered (messageIn r) (serviceIn r) (expiryIn r))

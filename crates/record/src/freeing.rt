@@ -1,0 +1,79 @@
+// Which records a rule frees, and freeing them.
+ghost use mathlib.Core.Path.{_≡_};
+ghost use lib.ListN.{length};
+ghost use Rattle.bits.specs.Bits.{num};
+ghost use Rattle.record.specs.Layout.{recordSize, freeRecord, expiryIn, locationIn};
+ghost use Rattle.record.specs.Rules.{sameKey, sameService, falls, freedIf};
+use crate::Key;
+use crate::Rule;
+use crate::Service;
+
+// The minute at which the record ends.
+pub fn expiry(r: &[u8]) -> u32
+    requires { ⌜ length (now r) ≡ recordSize ⌝ }
+    ensures { λ n. ⌜ n ≡ expiryIn (now (r .entry)) ⌝ }
+{
+    r[12] as u32 + 0x100 * (r[13] as u32) + 0x1_0000 * (r[14] as u32) + 0x100_0000 * (r[15] as u32)
+}
+
+pub fn location(r: &[u8]) -> u16
+    requires { ⌜ length (now r) ≡ recordSize ⌝ }
+    ensures { λ n. ⌜ n ≡ locationIn (now (r .entry)) ⌝ }
+{
+    r[4] as u16 + 0x100 * (r[5] as u16)
+}
+
+// Whether the record is of the service.
+fn same_service(r: &[u8], s: Service) -> bool
+    requires { ⌜ length (now r) ≡ recordSize ⌝ }
+    ensures { λ b. ⌜ b ≡ sameService s (now (r .entry)) ⌝ }
+{
+    (r[31] == s.country) & ((r[3] == s.ltn) & (r[2] == s.sid))
+}
+
+// Whether the record is of the same service, location, direction and update class.
+fn same_key(r: &[u8], key: Key) -> bool
+    requires { ⌜ length (now r) ≡ recordSize ⌝ }
+    ensures { λ b. ⌜ b ≡ sameKey key (now (r .entry)) ⌝ }
+{
+    let service = key.service;
+    same_service(r, service)
+        & ((location(r) == key.location) & ((r[8] == key.direction) & (r[30] == key.class)))
+}
+
+// Whether the record is used and the rule frees it.
+pub fn falls_under(r: &[u8], rule: Rule) -> bool
+    requires { ⌜ length (now r) ≡ recordSize ⌝ }
+    ensures { λ b. ⌜ b ≡ falls rule (now (r .entry)) ⌝ }
+{
+    match rule {
+        Rule::Expired(minute) => (r[0] != 0) & (expiry(r) <= minute),
+        Rule::Matching(key) => (r[0] != 0) & same_key(r, key),
+    }
+}
+
+// Frees the record if the rule says so, and answers how many were freed.
+pub fn free_if(r: &mut [u8], rule: Rule) -> usize
+    requires { ⌜ length (now r) ≡ recordSize ⌝ }
+    ensures { λ n. ⌜ n ≡ num (falls rule (now (r .entry))) ⌝ }
+    ensures { λ _. ⌜ now (r .exit) ≡ freedIf (falls rule) (now (r .entry)) ⌝ }
+{
+    if falls_under(r, rule) {
+        clear(r);
+        1
+    } else {
+        0
+    }
+}
+
+// Sets every byte to zero.
+fn clear(r: &mut [u8])
+    requires { ⌜ length (now r) ≡ recordSize ⌝ }
+    ensures { λ _. ⌜ now (r .exit) ≡ freeRecord ⌝ }
+{
+    let mut i = 0;
+    while i < r.len() {
+        r[i] = 0;
+        i += 1;
+    }
+}

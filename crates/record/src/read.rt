@@ -1,0 +1,113 @@
+// A record read back.
+ghost use mathlib.Core.Path.{_≡_};
+ghost use mathlib.Core.Bool.{true, false};
+ghost use Prim.Native.Nat.{_≤_};
+ghost use lib.ListN.{length, take};
+ghost use Rattle.bits.specs.Fields.{flat};
+ghost use Rattle.content.specs.Held.{bitsOf};
+ghost use Rattle.content.specs.Packing.{longest};
+ghost use Rattle.report.specs.Read.{outcomeOf};
+ghost use Rattle.record.specs.Layout.{recordSize, isFree, groupsIn, headIn, serviceIn, contentIn};
+ghost use Rattle.record.specs.WellFormed.{wellFormed};
+ghost use Rattle.record.specs.Reads.{messageIn, readingIn, nothing};
+use crate::Answer;
+use crate::Reading;
+use crate::Service;
+use crate::freeing::expiry;
+use crate::freeing::location;
+use bits::bytes::load;
+use content::content::Content;
+use report::Outcome;
+use report::Report;
+use word::Head;
+
+// The report of a well-formed record with its service and expiry, or that it is free; content that does not read as items is
+// refused (7 or 8).
+pub fn read(r: &[u8]) -> Reading
+    requires { ⌜ (length (now r) ≡ recordSize) × (wellFormed (now r) ≡ true) ⌝ }
+    ensures { λ x. ⌜ x ≡ readingIn (now (r .entry)) ⌝ }
+{
+    if r[0] == 0 {
+        return nothing(Answer::Free);
+    }
+    let outcome = message(r);
+    let answer = outcome.answer;
+    let report = outcome.report;
+    match answer {
+        report::Answer::Read => Reading {
+            answer: Answer::Read,
+            report,
+            service: service(r),
+            expiry: expiry(r),
+        },
+        report::Answer::Refused(n) => nothing(Answer::Refused(n)),
+    }
+}
+
+// An answer with no report.
+pub fn nothing(answer: Answer) -> Reading
+    ensures { λ x. ⌜ x ≡ nothing answer ⌝ }
+{
+    Reading {
+        answer,
+        report: Report::new(),
+        service: Service {
+            country: 0,
+            ltn: 0,
+            sid: 0,
+        },
+        expiry: 0,
+    }
+}
+
+fn message(r: &[u8]) -> Outcome
+    requires { ⌜ (length (now r) ≡ recordSize) × (wellFormed (now r) ≡ true) × (isFree (now r) ≡ false) ⌝ }
+    ensures { λ x. ⌜ x ≡ outcomeOf (messageIn (now (r .entry))) ⌝ }
+{
+    let groups = r[1] as usize;
+    let head = head(r);
+    if groups == 1 {
+        Outcome {
+            answer: report::Answer::Read,
+            report: Report::single(r[11], r[10], head),
+        }
+    } else {
+        Report::multi(head, content(r), Content::GROUP * (groups - 1))
+    }
+}
+
+fn service(r: &[u8]) -> Service
+    requires { ⌜ length (now r) ≡ recordSize ⌝ }
+    ensures { λ s. ⌜ s ≡ serviceIn (now (r .entry)) ⌝ }
+{
+    Service {
+        country: r[31],
+        ltn: r[3],
+        sid: r[2],
+    }
+}
+
+fn head(r: &[u8]) -> Head
+    requires { ⌜ length (now r) ≡ recordSize ⌝ }
+    ensures { λ h. ⌜ h ≡ headIn (now (r .entry)) ⌝ }
+{
+    Head {
+        direction: r[8],
+        extent: r[9],
+        event: r[6] as u16 + 0x100 * (r[7] as u16),
+        location: location(r),
+    }
+}
+
+// The content bits: eight bytes in the high half, and six at the top of the low half.
+fn content(r: &[u8]) -> Content
+    requires { ⌜ length (now r) ≡ recordSize ⌝ }
+    ensures { λ c. ⌜ take longest (bitsOf c) ≡ flat 8 (contentIn (now (r .entry))) ⌝ }
+{
+    let high = load(&r[16..24]);
+    let low = load(&r[24..30]);
+    Content {
+        high,
+        low: low * 0x1_0000,
+    }
+}

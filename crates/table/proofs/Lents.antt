@@ -1,0 +1,100 @@
+-- What a table, a catalogue and lives that fit say.
+use Prim.Native.Nat.{ℕ, zero, suc, _+_, _*_, _%_, _≤_, _<_}
+use native.Mathlib.Omega.{arith}
+use mathlib.Core.Path.{_≡_, refl, sym, ap, _∙_}
+use mathlib.Core.Bool.{Bool, true, false, _&&_, _||_}
+use mathlib.Core.List.{List, [], _∷_}
+use lib.IntN.{ℤ}
+use lib.ListN.{length, take, drop, getD}
+use lib.Seq.{drop-drop}
+use lib.Dec.{leb, ltb, eqb}
+use borrow.Author.Tests.{eqb-true, eqb-false, leb-true, ltb-false}
+use Rattle.bits.proofs.Choice.{and-left, and-right, chosen}
+use Rattle.clock.specs.Time.{largest, localOf, expiryOf}
+use Rattle.clock.proofs.Midnight.{ahead, until-midnight, after-life}
+use Rattle.record.specs.Layout.{freeRecord}
+use Rattle.record.specs.WellFormed.{wellFormed}
+use Rattle.table.specs.Records.{chunks, records, allOf}
+use Rattle.table.specs.Lent.{sized, tableFits, entryFits, catalogueFits, livesFit}
+use Rattle.table.specs.Expire.{minuteUnfit}
+use Rattle.table.specs.Take.{lentFit, laterRefusal}
+use Rattle.table.proofs.Passes.{nth}
+
+pub table-whole : (t : List ℕ) → tableFits t ≡ true → length t % 32 ≡ 0
+unfolding tableFits sized
+table-whole t h =
+    let last = eqb (length t % 32) 0 in
+    let s = and-left (leb 32 (length t) && (leb (length t) (1024 * 32) && last)) (allOf wellFormed (records t)) h in
+    eqb-true (length t % 32) 0 (and-right (leb (length t) (1024 * 32)) last (and-right (leb 32 (length t)) (leb (length t) (1024 * 32) && last) s))
+
+pub table-records : (t : List ℕ) → tableFits t ≡ true → allOf wellFormed (records t) ≡ true
+unfolding tableFits
+table-records t h = and-right (sized t) (allOf wellFormed (records t)) h
+
+nth-next : (t : List ℕ) (i : ℕ) → nth (drop 32 t) i ≡ nth t (suc i)
+nth-next t i = let e : 32 + i * 32 ≡ suc i * 32 = omega arith in ap (take 32) (drop-drop (i * 32) 32 t ∙ ap (λ (k : ℕ). drop k t) e)
+
+pub chunk-at : (n i : ℕ) (t : List ℕ) → i < n → getD (chunks n t) i freeRecord ≡ nth t i
+unfolding chunks
+chunk-at zero i t h = absurd (omega arith)
+chunk-at (suc n) zero t h = refl
+chunk-at (suc n) (suc i) t h = chunk-at n i (drop 32 t) (omega arith) ∙ nth-next t i
+
+pub all-at : (p : List ℕ → Bool) (n i : ℕ) (t : List ℕ) → allOf p (chunks n t) ≡ true → i < n → p (nth t i) ≡ true
+unfolding allOf chunks
+all-at p zero i t a h = absurd (omega arith)
+all-at p (suc n) zero t a h = and-left (p (take 32 t)) (allOf p (chunks n (drop 32 t))) a
+all-at p (suc n) (suc i) t a h = ap p (sym (nth-next t i)) ∙ all-at p n i (drop 32 t) (and-right (p (take 32 t)) (allOf p (chunks n (drop 32 t))) a) (omega arith)
+
+entry-at : (p : ℕ → Bool) (l : List ℕ) (i : ℕ) → allOf p l ≡ true → i < length l → p (getD l i 0) ≡ true
+unfolding allOf
+entry-at p [] i a h = absurd (omega arith)
+entry-at p (x ∷ l) zero a h = and-left (p x) (allOf p l) a
+entry-at p (x ∷ l) (suc i) a h = entry-at p l i (and-right (p x) (allOf p l) a) (omega arith)
+
+module _ (t c l : List ℕ) (h : lentFit t c l ≡ true) where
+  pub lent-table : tableFits t ≡ true
+  unfolding lentFit
+  lent-table = and-left (tableFits t) (catalogueFits c && livesFit l) h
+
+  lent-rest : catalogueFits c && livesFit l ≡ true
+  unfolding lentFit
+  lent-rest = and-right (tableFits t) (catalogueFits c && livesFit l) h
+
+  pub lent-whole : length t % 32 ≡ 0
+  lent-whole = table-whole t lent-table
+
+  pub lent-events : length c ≡ 2048
+  unfolding catalogueFits
+  lent-events = eqb-true (length c) 2048 (and-left (eqb (length c) 2048) (allOf entryFits c) (and-left (catalogueFits c) (livesFit l) lent-rest))
+
+  lent-lives-fit : eqb (length l) 16 && allOf (λ x. leb x 10080) l ≡ true
+  unfolding livesFit
+  lent-lives-fit = and-right (catalogueFits c) (livesFit l) lent-rest
+
+  pub lent-lives : length l ≡ 16
+  lent-lives = eqb-true (length l) 16 (and-left (eqb (length l) 16) (allOf (λ x. leb x 10080) l) lent-lives-fit)
+
+  pub life-short : (i : ℕ) → i < length l → getD l i 0 ≤ 10080
+  life-short i k = leb-true (getD l i 0) 10080 (entry-at (λ x. leb x 10080) l i (and-right (eqb (length l) 16) (allOf (λ x. leb x 10080) l) lent-lives-fit) k)
+
+-- an accepted minute is not too large
+pub minute-le : (last minute location entry : ℕ) → laterRefusal last minute location entry ≡ 0 → minute ≤ largest
+unfolding laterRefusal minuteUnfit
+minute-le last minute location entry h = by-test (minuteUnfit last minute) refl
+  where
+    or-right : (a b : Bool) → a || b ≡ false → b ≡ false
+    or-right true b e = let z : true ≡ false = e in cc
+    or-right false b e = e
+
+    by-test : (b : Bool) → minuteUnfit last minute ≡ b → minute ≤ largest
+    by-test true e = absurd (let z : 13 ≡ 0 = sym (chosen _ _ _ e) ∙ h in omega arith)
+    by-test false e = ltb-false largest minute (or-right (ltb minute last) (ltb largest minute) (unfold minuteUnfit in e))
+
+-- and what is stored ends at a minute of 32 bits
+pub expiry-fits : (minute : ℕ) (lto : ℤ) (life : ℕ) → minute ≤ largest → life ≤ 10080 → expiryOf minute lto life < 4294967296
+expiry-fits minute lto life m h = by-test (eqb life 0) refl
+  where
+    by-test : (b : Bool) → eqb life 0 ≡ b → expiryOf minute lto life < 4294967296
+    by-test true e = omega (arith, until-midnight minute lto life (eqb-true life 0 e), ahead (localOf minute lto))
+    by-test false e = omega (arith, after-life minute lto life (eqb-false life 0 e))

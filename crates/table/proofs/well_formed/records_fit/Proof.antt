@@ -1,0 +1,167 @@
+use borrow.Author.Tests.{not-true, not-false}
+-- The records passed are well-formed, and of this one the bytes passed are in their ranges.
+use Prim.Native.Nat.{_+_, _-_, _*_, _/_, _≤_, _<_}
+use mathlib.Core.Path.{_≡_, refl, sym, ap, _∙_}
+use native.Mathlib.Omega.{arith}
+use mathlib.Core.Bool.{Bool, true, false, _&&_}
+use lib.ListN.{length, drop, getD}
+use Rattle.record.specs.WellFormed.{byteFits, allBelow, rangesFit, restFits, wellFormed}
+use Rattle.table.specs.Records.{chunks, records, allOf}
+use Rattle.table.proofs.Bytes.{byteOf, byte-same, below-next, ranges-hold, record-is, byte-unfit}
+use Rattle.table.proofs.Passes.{nth, part-is, length-part, rest-whole, all-next, all-end}
+use Rattle.table.proofs.well_formed.records_fit.Statement.{statement}
+use Rattle.table.proofs.well_formed.records_fit.Tie as tie
+
+abbrev Inv-loop : tie.InvT-loop
+Inv-loop t n i a e used j₀ j = (j ≤ 32) × (allBelow (byteOf t i) j ≡ true)
+
+abbrev μ-loop : tie.MeasureT-loop
+μ-loop t n i a e used j₀ j = 32 - j
+
+abbrev Inv-records : tie.InvT-records
+Inv-records t n i₀ i = (i ≤ n) × (allOf wellFormed (chunks n t) ≡ allOf wellFormed (chunks (n - i) (drop (i * 32) t)))
+
+abbrev μ-records : tie.MeasureT-records
+μ-records t n i₀ i = n - i
+
+records-holds : tie.Need-records-holds Inv-loop μ-loop Inv-records μ-records
+records-holds c = (omega arith, sym (ap (allOf wellFormed) (rest-whole (length (c .before .args .t .now) / 32) (c .before .args .t .now))))
+
+mul-a : tie.Need-mul-a Inv-loop μ-loop Inv-records μ-records
+mul-a c = omega arith
+
+add-e : tie.Need-add-e Inv-loop μ-loop Inv-records μ-records
+add-e c = omega arith
+
+shared-slice-read-used : tie.Need-shared-slice-read-used Inv-loop μ-loop Inv-records μ-records
+shared-slice-read-used c = omega arith
+
+loop-holds : tie.Need-loop-holds Inv-loop μ-loop Inv-records μ-records
+unfolding allBelow
+loop-holds c = (omega arith, refl)
+
+add-byte-fits : tie.Need-add-byte-fits Inv-loop μ-loop Inv-records μ-records
+add-byte-fits c = omega arith
+
+shared-slice-read-byte-fits :
+    tie.Need-shared-slice-read-byte-fits Inv-loop μ-loop Inv-records μ-records
+shared-slice-read-byte-fits c = omega arith
+
+byte-fits-requires : tie.Need-byte-fits-requires Inv-loop μ-loop Inv-records μ-records
+byte-fits-requires c κs = omega arith
+
+add-j : tie.Need-add-j Inv-loop μ-loop Inv-records μ-records
+add-j c = omega arith
+
+loop-less : tie.Need-loop-less Inv-loop μ-loop Inv-records μ-records
+loop-less c = omega arith
+
+loop-again : tie.Need-loop-again Inv-loop μ-loop Inv-records μ-records
+loop-again c =
+    let t = c .before .before .before .before .before .before .before .before .before .args .t .now in
+    let i = c .before .before .before .before .before .before .before .records .i in
+    let n = length t / 32 in
+    let l = c .before .before .before .before .loop in
+    let j = l .j in
+    let below : j < 32 = omega arith in
+    let yes : byteFits (getD t (i * 32) 0) j (getD t (i * 32 + j) 0) ≡ true = sym (c .before .byte-fits .ensures) ∙ not-false (c .before .byte-fits .result) (c .if2 .left) in
+    (omega arith, below-next (byteOf t i) j (l .inv .1) (byte-same t i j below ∙ yes))
+
+sub-rest-fits : tie.Need-sub-rest-fits Inv-loop μ-loop Inv-records μ-records
+sub-rest-fits c = omega arith
+
+part-rest-fits-start : tie.Need-part-rest-fits-start Inv-loop μ-loop Inv-records μ-records
+part-rest-fits-start c = omega arith
+
+part-rest-fits-end : tie.Need-part-rest-fits-end Inv-loop μ-loop Inv-records μ-records
+part-rest-fits-end c = omega arith
+
+rest-fits-requires : tie.Need-rest-fits-requires Inv-loop μ-loop Inv-records μ-records
+rest-fits-requires c κs =
+    let t = c .before .before .before .before .before .before .before .args .t .now in
+    let i = c .before .before .before .before .before .records .i in
+    let n = length t / 32 in
+    let l = c .before .before .loop in
+    let h : i < n = omega arith in
+    let e : l .j ≡ 32 = omega arith in
+    (length-part t i h, ap rangesFit (part-is t i) ∙ ranges-hold t i (l .j) e (l .inv .1))
+
+add-i : tie.Need-add-i Inv-loop μ-loop Inv-records μ-records
+add-i c = omega arith
+
+records-less : tie.Need-records-less Inv-loop μ-loop Inv-records μ-records
+records-less c = omega arith
+
+records-again : tie.Need-records-again Inv-loop μ-loop Inv-records μ-records
+records-again c =
+    let t = c .before .before .before .before .before .before .before .before .before .args .t .now in
+    let i = c .before .before .before .before .before .before .before .records .i in
+    let n = length t / 32 in
+    let l = c .before .before .before .before .loop in
+    let h : i < n = omega arith in
+    let e : l .j ≡ 32 = omega arith in
+    let rest : restFits (nth t i) ≡ true = ap restFits (sym (part-is t i)) ∙ sym (c .before .rest-fits .ensures) ∙ not-false (c .before .rest-fits .result) (c .if3 .left) in
+    (omega arith, c .before .before .before .before .before .before .before .records .inv .1 ∙ all-next wellFormed n i t h ∙ ap (λ (b : Bool). b && allOf wellFormed (chunks (n - (i + 1)) (drop ((i + 1) * 32) t))) (record-is (nth t i) true (ranges-hold t i (l .j) e (l .inv .1)) rest))
+
+returns : tie.Need-returns Inv-loop μ-loop Inv-records μ-records
+unfolding records
+returns c =
+    let t = c .before .before .before .args .t .now in
+    let i = c .before .records .i in
+    let n = length t / 32 in
+    let e : i ≡ n = omega arith in
+    sym (c .before .records .inv .1 ∙ all-end wellFormed n i t e)
+
+returns-2 : tie.Need-returns-2 Inv-loop μ-loop Inv-records μ-records
+unfolding records
+returns-2 c =
+    let t = c .before .before .before .before .before .before .before .before .before .args .t .now in
+    let i = c .before .before .before .before .before .before .before .records .i in
+    let n = length t / 32 in
+    let j = c .before .before .before .before .loop .j in
+    let h : i < n = omega arith in
+    let below : j < 32 = omega arith in
+    let no : byteFits (getD t (i * 32) 0) j (getD t (i * 32 + j) 0) ≡ false = sym (c .before .byte-fits .ensures) ∙ not-true (c .before .byte-fits .result) (c .if2 .taken) in
+    sym (c .before .before .before .before .before .before .before .records .inv .1 ∙ all-next wellFormed n i t h ∙ ap (λ (b : Bool). b && allOf wellFormed (chunks (n - (i + 1)) (drop ((i + 1) * 32) t))) (byte-unfit t i j below (byte-same t i j below ∙ no)))
+
+returns-3 : tie.Need-returns-3 Inv-loop μ-loop Inv-records μ-records
+unfolding records
+returns-3 c =
+    let t = c .before .before .before .before .before .before .before .before .before .args .t .now in
+    let i = c .before .before .before .before .before .before .before .records .i in
+    let n = length t / 32 in
+    let l = c .before .before .before .before .loop in
+    let h : i < n = omega arith in
+    let e : l .j ≡ 32 = omega arith in
+    let rest : restFits (nth t i) ≡ false = ap restFits (sym (part-is t i)) ∙ sym (c .before .rest-fits .ensures) ∙ not-true (c .before .rest-fits .result) (c .if3 .taken) in
+    sym (c .before .before .before .before .before .before .before .records .inv .1 ∙ all-next wellFormed n i t h ∙ ap (λ (b : Bool). b && allOf wellFormed (chunks (n - (i + 1)) (drop ((i + 1) * 32) t))) (record-is (nth t i) false (ranges-hold t i (l .j) e (l .inv .1)) rest))
+
+pub records-fit-spec : {M : Type 1} → statement M
+records-fit-spec =
+    tie.close
+    (tie.spec
+    Inv-loop
+    μ-loop
+    Inv-records
+    μ-records
+    records-holds
+    mul-a
+    add-e
+    shared-slice-read-used
+    loop-holds
+    add-byte-fits
+    shared-slice-read-byte-fits
+    byte-fits-requires
+    add-j
+    loop-less
+    loop-again
+    sub-rest-fits
+    part-rest-fits-start
+    part-rest-fits-end
+    rest-fits-requires
+    add-i
+    records-less
+    records-again
+    returns
+    returns-2
+    returns-3)

@@ -1,0 +1,34 @@
+use Prim.Native.Nat.{_%_}
+use lib.ListN.{length}
+use lib.Dec.{leb, eqb}
+-- The number of bytes, and then every record.
+use mathlib.Core.Path.{sym, ap, _∙_}
+use mathlib.Core.Bool.{Bool, _&&_}
+use borrow.Author.Tests.{eqb-true}
+use Rattle.bits.proofs.Choice.{and-right}
+use Rattle.record.specs.WellFormed.{wellFormed}
+use Rattle.table.specs.Records.{records, allOf}
+use Rattle.table.specs.Lent.{sized, tableFits}
+use borrow.Author.Needs.{needs}
+use Rattle.table.proofs.well_formed.table_fits.Statement.{statement}
+use Rattle.table.proofs.well_formed.table_fits.Tie as tie
+
+mul-if1 : tie.Need-mul-if1
+mul-if1 c = search needs
+
+records-fit-requires : tie.Need-records-fit-requires
+records-fit-requires c κs =
+    let n = length (c .before .before .args .t .now) in
+    let last = eqb (n % 32) 0 in
+    eqb-true (n % 32) 0 (and-right (leb n 32768) last (and-right (leb 32 n) (leb n 32768 && last) (c .if1 .taken)))
+
+returns : tie.Need-returns
+unfolding tableFits sized
+returns c = c .records-fit .ensures ∙ sym (ap (λ (b : Bool). b && allOf wellFormed (records (c .before .before .before .args .t .now))) (c .before .if1 .taken))
+
+returns-2 : tie.Need-returns-2
+unfolding tableFits sized
+returns-2 c = sym (ap (λ (b : Bool). b && allOf wellFormed (records (c .before .before .args .t .now))) (c .if1 .left))
+
+pub table-fits-spec : {M : Type 1} → statement M
+table-fits-spec = tie.close (tie.spec mul-if1 records-fit-requires returns returns-2)

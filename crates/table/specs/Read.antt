@@ -1,0 +1,18 @@
+-- One record of the table (document 01, "The message table").
+use Prim.Native.Nat.{ℕ, _/_}
+use mathlib.Core.Bool.{cond}
+use mathlib.Core.List.{List}
+use lib.ListN.{length, getD}
+use lib.Dec.{leb}
+use Rattle.record.specs.declared.Reading.{Reading}
+use Rattle.record.specs.declared.Answer.the-variants.{Refused}
+use Rattle.record.specs.Layout.{recordSize, freeRecord}
+use Rattle.record.specs.Reads.{nothing, readingIn}
+use Rattle.table.specs.Records.{records}
+use Rattle.table.specs.Lent.{tableFits}
+
+unfoldable pub recordAt : List ℕ → ℕ → Reading
+recordAt t i =
+    cond (tableFits t)
+    (cond (leb (length t / recordSize) i) (nothing (Refused 9)) (readingIn (getD (records t) i freeRecord)))
+    (nothing (Refused 10))

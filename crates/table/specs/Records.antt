@@ -1,0 +1,51 @@
+-- The table as a list of records (document 01, "The message table").
+use Prim.Native.Nat.{ℕ, zero, suc, _+_, _/_}
+use mathlib.Core.Bool.{Bool, true, cond, _&&_}
+use mathlib.Core.List.{List, [], _∷_, _++_, map}
+use lib.ListN.{length, take, drop, set}
+use Rattle.bits.specs.Bits.{num}
+use Rattle.record.specs.Layout.{recordSize, isFree}
+use Rattle.record.specs.Rules.{freedIf}
+
+-- the first n records of bytes
+unfoldable pub chunks : ℕ → List ℕ → List (List ℕ)
+chunks zero t = []
+chunks (suc n) t = take recordSize t ∷ chunks n (drop recordSize t)
+
+unfoldable pub records : List ℕ → List (List ℕ)
+records t = chunks (length t / recordSize) t
+
+-- the bytes of records
+unfoldable pub joined : List (List ℕ) → List ℕ
+joined [] = []
+joined (r ∷ rs) = r ++ joined rs
+
+-- a test holds of every one
+unfoldable pub allOf : {A : Type 0} → (A → Bool) → List A → Bool
+allOf p [] = true
+allOf p (x ∷ xs) = p x && allOf p xs
+
+-- how many a test holds of
+unfoldable pub countIf : (List ℕ → Bool) → List (List ℕ) → ℕ
+countIf p [] = 0
+countIf p (r ∷ rs) = num (p r) + countIf p rs
+
+-- the place of the first one that a test holds of; their number where there is none
+unfoldable pub firstOf : (List ℕ → Bool) → List (List ℕ) → ℕ
+firstOf p [] = 0
+firstOf p (r ∷ rs) = cond (p r) 0 (suc (firstOf p rs))
+
+-- the table with every record freed that a test holds of, and how many these are
+unfoldable pub freeWhere : (List ℕ → Bool) → List ℕ → List ℕ
+freeWhere p t = joined (map (freedIf p) (records t))
+
+unfoldable pub countWhere : (List ℕ → Bool) → List ℕ → ℕ
+countWhere p t = countIf p (records t)
+
+-- the lowest-numbered free record
+unfoldable pub lowestFree : List ℕ → ℕ
+lowestFree t = firstOf isFree (records t)
+
+-- the table with a record stored in a place
+unfoldable pub stored : List ℕ → ℕ → List ℕ → List ℕ
+stored t place r = joined (set (records t) place r)

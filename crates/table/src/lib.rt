@@ -1,0 +1,58 @@
+// The message table: lent bytes, one record after the other. Reports are taken, records expire and are read.
+mod expire;
+mod lent;
+mod read;
+mod search;
+mod sweep;
+mod take;
+mod well_formed;
+
+use clock::Utc;
+use record::Service;
+use report::Report;
+
+// What arrives: a report of a service, at a minute of UTC.
+pub struct Arrival {
+    pub report: Report,
+    pub service: Service,
+    pub minute: Utc,
+}
+
+// How many records a call freed as expired and as matching, and where it stored the report; or the refusal's number.
+pub enum Answer {
+    Freed {
+        expired: usize,
+        matched: usize,
+    },
+    Stored {
+        expired: usize,
+        matched: usize,
+        place: usize,
+    },
+    Refused(u8),
+}
+
+// The last accepted minute, and the answer.
+pub struct Step {
+    pub last: Utc,
+    pub answer: Answer,
+}
+
+// The limits of what a call is lent.
+pub struct Table;
+
+impl Table {
+    // The most records of a table.
+    pub const RECORDS: usize = 1024;
+
+    // The entries of a catalogue.
+    pub const EVENTS: usize = 2048;
+
+    // The lives, and the longest of them in minutes.
+    pub const LIVES: usize = 16;
+
+    pub const LONGEST_LIFE: u16 = 10080;
+
+    // Location codes below this are of the service's own table.
+    pub const FOREIGN: u16 = 0xFC00;
+}

@@ -1,0 +1,27 @@
+// The records one by one.
+ghost use mathlib.Core.Path.{_≡_};
+ghost use Rattle.table.specs.Read.{recordAt};
+use crate::Table;
+use crate::well_formed::table_fits;
+use record::Answer;
+use record::Reading;
+use record::Record;
+use record::read::nothing;
+
+impl Table {
+    // The report, service and expiry of record i, or that it is free. A malformed table is refused (10), then a place past the last
+    // record (9), then content that does not read as items (7 or 8).
+    pub fn read(t: &[u8], i: usize) -> Reading
+        ensures { λ r. ⌜ r ≡ recordAt (now (t .entry)) i ⌝ }
+    {
+        if !table_fits(t) {
+            return nothing(Answer::Refused(10));
+        }
+        if t.len() / Record::SIZE <= i {
+            return nothing(Answer::Refused(9));
+        }
+        let a = i * Record::SIZE;
+        let e = a + Record::SIZE;
+        record::read::read(&t[a..e])
+    }
+}

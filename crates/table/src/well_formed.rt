@@ -1,0 +1,53 @@
+// Whether a table is well-formed.
+ghost use mathlib.Core.Path.{_≡_};
+ghost use Prim.Native.Nat.{_%_};
+ghost use lib.ListN.{length};
+ghost use Rattle.record.specs.Layout.{recordSize};
+ghost use Rattle.record.specs.WellFormed.{wellFormed};
+ghost use Rattle.table.specs.Records.{records, allOf};
+ghost use Rattle.table.specs.Lent.{tableFits};
+use crate::Table;
+use record::Record;
+use record::test::byte_fits;
+use record::test::rest_fits;
+
+// Whether the bytes are 1 to 1,024 well-formed records.
+pub fn table_fits(t: &[u8]) -> bool
+    ensures { λ b. ⌜ b ≡ tableFits (now (t .entry)) ⌝ }
+{
+    let length = t.len();
+    if (Record::SIZE <= length)
+        & ((length <= Table::RECORDS * Record::SIZE) & (length % Record::SIZE == 0))
+    {
+        records_fit(t)
+    } else {
+        false
+    }
+}
+
+fn records_fit(t: &[u8]) -> bool
+    requires { ⌜ length (now t) % recordSize ≡ 0 ⌝ }
+    ensures { λ b. ⌜ b ≡ allOf wellFormed (records (now (t .entry))) ⌝ }
+{
+    let n = t.len() / Record::SIZE;
+    let mut i = 0;
+    'records: loop {
+        if i == n {
+            break true;
+        }
+        let a = i * Record::SIZE;
+        let e = a + Record::SIZE;
+        let used = t[a];
+        let mut j = 0;
+        while j < Record::SIZE {
+            if !byte_fits(used, j, t[a + j]) {
+                break 'records false;
+            }
+            j += 1;
+        }
+        if !rest_fits(&t[a..e]) {
+            break 'records false;
+        }
+        i += 1;
+    }
+}
