@@ -1,0 +1,7 @@
+pub mod Checks
+pub mod Signed
+pub mod Front
+pub mod Body
+pub mod Units
+pub mod Whole
+pub mod Examples

@@ -1,0 +1,53 @@
+-- A unit's bytes: those before the check word, and the check word.
+use Prim.Native.Nat.{ℕ, _-_, _≤_}
+use native.Mathlib.Omega.{arith}
+use mathlib.Core.Path.{_≡_, sym, ap, _∙_}
+use mathlib.Core.Bool.{true, false, _&&_}
+use mathlib.Core.List.{List}
+use lib.ListN.{length, take, drop, length-drop}
+use lib.Seq.{length-take-le, take-all}
+use lib.Dec.{leb, eqb}
+use borrow.Author.Tests.{leb-true, eq-eqb, ne-eqb}
+use Rattle.bits.specs.Bits.{val}
+use Rattle.bits.specs.Fields.{flat}
+use Rattle.bits.proofs.Choice.{and-left, and-right}
+use Rattle.crc.specs.Register.{checkWord}
+use Rattle.drm.specs.declared.Reading.the-variants.{Refused}
+use Rattle.drm.specs.Read.{lengthFits, checkIn, payload, payloadRefusal, unitRefusal, unless, taken, readUnit}
+use Rattle.drm.proofs.Checks.{passed, none, refused}
+
+-- the test of the length
+pub in-range : (n : ℕ) → lengthFits n ≡ true → (8 ≤ n) × (n ≤ 128)
+in-range n t = (leb-true 8 n (and-left (leb 8 n) (leb n 128) t), leb-true n 128 (and-right (leb 8 n) (leb n 128) t))
+
+pub payload-length : (s : List ℕ) → length (payload s) ≡ length s - 2
+payload-length s = length-take-le (length s - 2) s (omega arith)
+
+-- n is read from the last bytes, m is worked out
+module _ (s : List ℕ) (n m : ℕ) (en : n ≡ val (flat 8 (take (length s - (length s - 2)) (drop (length s - 2) s)))) (em : m ≡ checkWord (payload s)) where
+  last : n ≡ checkIn s
+  last = en ∙ ap (λ (l : List ℕ). val (flat 8 l)) (take-all (length s - (length s - 2)) (drop (length s - 2) s) (omega (arith, length-drop (length s - 2) s)))
+
+  pub check-holds : n ≡ m → eqb (checkIn s) (checkWord (payload s)) ≡ true
+  check-holds e = eq-eqb _ _ (sym last ∙ e ∙ em)
+
+  pub check-fails : (n ≡ m → ⊥) → eqb (checkIn s) (checkWord (payload s)) ≡ false
+  check-fails h = ne-eqb _ _ (λ e. h (last ∙ e ∙ sym em))
+
+-- a unit that is not refused
+pub accepted : (s : List ℕ) (room : ℕ) → unitRefusal s room ≡ 0 → (lengthFits (length s) ≡ true) × (payloadRefusal (flat 8 (payload s)) room ≡ 0)
+unfolding unitRefusal
+accepted s room e =
+    let p = passed (lengthFits (length s)) 0 _ e in
+    (p .0, passed (eqb (checkIn s) (checkWord (payload s))) 3 _ (p .1) .1)
+
+-- and what is read of it
+pub unit-taken : (s : List ℕ) (room n : ℕ) → n ≡ unitRefusal s room → n ≡ 0 → taken (flat 8 (payload s)) ≡ readUnit s room
+unfolding readUnit
+unit-taken s room n e z = sym (none (unitRefusal s room) (taken (flat 8 (payload s))) (sym e ∙ z))
+
+pub unit-refused : (s : List ℕ) (room n : ℕ) → n ≡ unitRefusal s room → (n ≡ 0 → ⊥) → Refused n ≡ readUnit s room
+unfolding readUnit
+unit-refused s room n e h =
+    let t = taken (flat 8 (payload s)) in
+    sym (refused n t h) ∙ ap (λ (m : ℕ). unless m t) e

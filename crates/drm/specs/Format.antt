@@ -1,0 +1,33 @@
+-- A DRM data unit (document 01, "DRM"; source 002, clause 5): a start, perhaps a header, words of 37 bits, zero padding, a check word.
+use Prim.Native.Nat.{ℕ}
+use mathlib.Core.List.{List, [], _∷_}
+
+-- the bytes of a unit, at least and at most (clause 7.3)
+abbrev pub shortest : ℕ
+shortest = 8
+
+abbrev pub longest : ℕ
+longest = 128
+
+-- the bytes of the check word
+abbrev pub checkLength : ℕ
+checkLength = 2
+
+-- the bits of a user word and of a system word
+abbrev pub wordWidth : ℕ
+wordWidth = 37
+
+abbrev pub systemWidth : ℕ
+systemWidth = 16
+
+-- TMCHI, rfu, Short ID
+abbrev pub startFormat : List ℕ
+startFormat = 1 ∷ 1 ∷ 4 ∷ []
+
+-- in a header after rfa, the UA flag and any UA data: number of services, Country, ECC, LTO, m
+abbrev pub headerFormat : List ℕ
+headerFormat = 4 ∷ 4 ∷ 8 ∷ 6 ∷ 2 ∷ []
+
+-- the application identifier of ALERT-C (clause 8.3)
+abbrev pub alertC : ℕ
+alertC = 0xCD46

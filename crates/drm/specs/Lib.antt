@@ -1,0 +1,4 @@
+pub mod Format
+pub mod Offset
+pub mod Payload
+pub mod Read

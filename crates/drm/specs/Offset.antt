@@ -1,0 +1,9 @@
+-- LTO, a signed number of half hours (document 01, "DRM"; source 002, clause 5, "TMC LTO").
+use Prim.Native.Nat.{ℕ, _%_}
+use mathlib.Core.Bool.{cond}
+use lib.Dec.{ltb}
+use lib.IntN.{ℤ, pos, negℤ}
+
+-- a sign bit and five bits of half hours; minus zero is 0
+unfoldable pub ltoOf : ℕ → ℤ
+ltoOf field = cond (ltb field 32) (pos field) (negℤ (pos (field % 32)))

@@ -1,0 +1,234 @@
+// A data unit read from its bytes: the checks in order, and then the fields and the user words.
+ghost use mathlib.Core.Path.{_≡_};
+ghost use Prim.Native.Nat.{_+_, _*_, _≤_, _<_};
+ghost use mathlib.Core.List.{[], _∷_};
+ghost use lib.ListN.{length, drop, getD};
+ghost use Rattle.bits.specs.Bits.{bits, val};
+ghost use Rattle.bits.specs.Fields.{flat, unpack, words};
+ghost use Rattle.bits.specs.Overlay.{stretch};
+ghost use Rattle.drm.specs.Format.{startFormat, headerFormat};
+ghost use Rattle.drm.specs.Offset.{ltoOf};
+ghost use Rattle.drm.specs.Payload.{start, uaFlag, aid, headerAt, header as Payload·header, headerBits, systemWords, wordsAt, countFrom, unitOf};
+ghost use Rattle.drm.specs.Read.{payload, fieldRefusal, wordsRefusal, payloadRefusal, unitRefusal, taken as Read·taken, readUnit, wordsAfter};
+use crate::Reading;
+use crate::Unit;
+use bits::bytes::load;
+use bits::field::bits_at;
+use bits::run::words_at;
+use bits::zero::zeros_at;
+use crc::check_word;
+
+impl Unit {
+    // Reads a unit, and its user words into the first cells of a buffer. Refuses in this order: a length outside 8 to 128 (1), the
+    // check word (4), rfu (3), another AID (2), a header without system words (3), one that does not fit or more than 7 bits left
+    // over (1), padding (3), too small a buffer (15). A refusal leaves the buffer as it is.
+    pub fn read(s: &[u8], out: &mut [u64]) -> Reading
+        ensures { λ r. ⌜ r ≡ readUnit (now (s .entry)) (length (now (out .entry))) ⌝ }
+        ensures { λ r. ⌜ now (out .exit) ≡ wordsAfter r (flat 8 (payload (now (s .entry)))) (now (out .entry)) ⌝ }
+    {
+        let refused = unit_refusal(s, out.len());
+        if refused == 0 {
+            let end = s.len() - Unit::CHECK;
+            take_payload(&s[..end], out)
+        } else {
+            Reading::Refused(refused)
+        }
+    }
+}
+
+// The refusal of a unit, 0 for none.
+fn unit_refusal(s: &[u8], room: usize) -> u8
+    ensures { λ r. ⌜ r ≡ unitRefusal (now (s .entry)) room ⌝ }
+{
+    if (Unit::SHORTEST <= s.len()) & (s.len() <= Unit::LONGEST) {
+        let end = s.len() - Unit::CHECK;
+        if load(&s[end..]) == check_word(&s[..end]) as u64 {
+            payload_refusal(&s[..end], room)
+        } else {
+            4
+        }
+    } else {
+        1
+    }
+}
+
+// The refusal of the bytes before the check word, 0 for none.
+fn payload_refusal(p: &[u8], room: usize) -> u8
+    requires { ⌜ (6 ≤ length (now p)) × (length (now p) ≤ 126) ⌝ }
+    ensures { λ r. ⌜ r ≡ payloadRefusal (flat 8 (now (p .entry))) room ⌝ }
+{
+    let refused = field_refusal(bits_at(p, 0, 6), aid_of(p), header_of(p));
+    if refused == 0 {
+        words_refusal(p, first_word(p), room)
+    } else {
+        refused
+    }
+}
+
+// The refusal of the fields, 0 for none.
+fn field_refusal(start: u64, aid: u64, header: u64) -> u8
+    ensures { λ r. ⌜ r ≡ fieldRefusal (unpack startFormat (bits 6 start)) aid (unpack headerFormat (bits 24 header)) ⌝ }
+{
+    if start / 0x10 % 2 != 0 {
+        return 3;
+    }
+    if aid != 0xCD46 {
+        return 2;
+    }
+    if header % 4 < start / 0x20 % 2 {
+        return 3;
+    }
+    0
+}
+
+// The refusal of user words from bit at on, 0 for none.
+fn words_refusal(p: &[u8], at: usize, room: usize) -> u8
+    requires { ⌜ length (now p) ≤ 126 ⌝ }
+    ensures { λ r. ⌜ r ≡ wordsRefusal at (flat 8 (now (p .entry))) room ⌝ }
+{
+    let total = p.len() * 8;
+    if total < at {
+        return 1;
+    }
+    let left = (total - at) % Unit::WIDTH;
+    if 7 < left {
+        return 1;
+    }
+    if zeros_at(p, total - left, left) {
+        if (total - at) / Unit::WIDTH <= room {
+            0
+        } else {
+            15
+        }
+    } else {
+        3
+    }
+}
+
+// The UA flag, 0 where there is no header.
+fn ua_flag(p: &[u8]) -> usize
+    requires { ⌜ 6 ≤ length (now p) ⌝ }
+    ensures { λ r. ⌜ r ≡ uaFlag (flat 8 (now (p .entry))) ⌝ }
+{
+    if bits_at(p, 0, 6) / 0x20 % 2 == 0 {
+        0
+    } else {
+        bits_at(p, 7, 1) as usize
+    }
+}
+
+// The application identifier.
+fn aid_of(p: &[u8]) -> u64
+    requires { ⌜ 6 ≤ length (now p) ⌝ }
+    ensures { λ r. ⌜ r ≡ aid (flat 8 (now (p .entry))) ⌝ }
+{
+    if ua_flag(p) == 0 {
+        0xCD46
+    } else {
+        bits_at(p, 8, 16)
+    }
+}
+
+// The bit at which the fields of the header begin.
+fn header_at(p: &[u8]) -> usize
+    requires { ⌜ 6 ≤ length (now p) ⌝ }
+    ensures { λ r. ⌜ r ≡ headerAt (flat 8 (now (p .entry))) ⌝ }
+{
+    8 + ua_flag(p) * 16
+}
+
+// The fields of the header as one number, 0 where there is none.
+fn header_of(p: &[u8]) -> u64
+    requires { ⌜ 6 ≤ length (now p) ⌝ }
+    ensures { λ r. ⌜ r ≡ val (headerBits (flat 8 (now (p .entry)))) ⌝ }
+{
+    if bits_at(p, 0, 6) / 0x20 % 2 == 0 {
+        0
+    } else {
+        bits_at(p, header_at(p), 24)
+    }
+}
+
+// The bit at which the user words begin.
+fn first_word(p: &[u8]) -> usize
+    requires { ⌜ 6 ≤ length (now p) ⌝ }
+    ensures { λ r. ⌜ r ≡ wordsAt (flat 8 (now (p .entry))) ⌝ }
+{
+    if bits_at(p, 0, 6) / 0x20 % 2 == 0 {
+        6
+    } else {
+        header_at(p) + 24 + (header_of(p) % 4) as usize * 16
+    }
+}
+
+// The unit, and its user words into the first cells of a buffer.
+fn take_payload(p: &[u8], out: &mut [u64]) -> Reading
+    requires { ⌜ (6 ≤ length (now p)) × (length (now p) ≤ 126) × (payloadRefusal (flat 8 (now p)) (length (now out)) ≡ 0) ⌝ }
+    ensures { λ r. ⌜ r ≡ Read·taken (flat 8 (now (p .entry))) ⌝ }
+    ensures { λ r. ⌜ now (out .exit) ≡ wordsAfter r (flat 8 (now (p .entry))) (now (out .entry)) ⌝ }
+{
+    let unit = unit_in(p);
+    let at = first_word(p);
+    let count = (p.len() * 8 - at) / Unit::WIDTH;
+    words_at(p, at, Unit::WIDTH, &mut out[..count]);
+    Reading::Taken { unit, count }
+}
+
+// The unit without its user words.
+fn unit_in(p: &[u8]) -> Unit
+    requires { ⌜ (6 ≤ length (now p)) × (length (now p) ≤ 126) × (wordsAt (flat 8 (now p)) ≤ length (flat 8 (now p))) ⌝ }
+    ensures { λ r. ⌜ r ≡ unitOf (start (flat 8 (now (p .entry)))) (Payload·header (flat 8 (now (p .entry)))) (systemWords (flat 8 (now (p .entry)))) ⌝ }
+{
+    let header = header_of(p);
+    let m = (header % 4) as usize;
+    let at = header_at(p) + 24;
+    unit_of(
+        bits_at(p, 0, 6),
+        header,
+        system_word(p, at, m, 0),
+        system_word(p, at, m, 1),
+        system_word(p, at, m, 2),
+    )
+}
+
+// Word i of m words of 16 bits from bit at on, 0 for the others.
+fn system_word(p: &[u8], at: usize, m: usize, i: usize) -> u16
+    requires { ⌜ (i < m → at + m * 16 ≤ length (now p) * 8) × (i < 3) × (at ≤ 48) ⌝ }
+    ensures { λ r. ⌜ r ≡ getD (words 16 m (drop at (flat 8 (now (p .entry))))) i 0 ⌝ }
+{
+    if i < m {
+        bits_at(p, at + i * 16, 16) as u16
+    } else {
+        0
+    }
+}
+
+// The unit of a start, a header and system words.
+fn unit_of(start: u64, header: u64, first: u16, second: u16, third: u16) -> Unit
+    ensures { λ r. ⌜ r ≡ unitOf (unpack startFormat (bits 6 start)) (unpack headerFormat (bits 24 header)) (first ∷ second ∷ third ∷ []) ⌝ }
+{
+    Unit {
+        tmchi: (start / 0x20 % 2) as u8,
+        id: (start % 0x10) as u8,
+        services: (header / 0x100000 % 0x10) as u8,
+        country: (header / 0x10000 % 0x10) as u8,
+        ecc: (header / 0x100 % 0x100) as u8,
+        lto: half_hours((header / 4 % 0x40) as u8),
+        system: (header % 4) as u8,
+        first,
+        second,
+        third,
+    }
+}
+
+// A sign bit and five bits of half hours as a signed number.
+fn half_hours(field: u8) -> i8
+    requires { ⌜ field < 64 ⌝ }
+    ensures { λ r. ⌜ r ≡ ltoOf field ⌝ }
+{
+    if field < 32 {
+        field as i8
+    } else {
+        0 - (field % 32) as i8
+    }
+}
