@@ -12,10 +12,7 @@ use Rattle.drm.specs.declared.Reading.the-variants.{Taken, Refused}
 use Rattle.drm.specs.Offset.{ltoOf}
 use Rattle.drm.specs.Payload.{uaFlag, aid, headerBits, wordsAt, unitOf}
 use Rattle.drm.specs.Read.{firstOf, fieldRefusal, wordsRefusal, payloadRefusal, unitRefusal, unless, taken, readUnit}
-
--- some bytes and their check word
-abbrev checked : List ℕ → List ℕ
-checked p = p ++ words 8 2 (bits 16 (checkWord p))
+use Rattle.drm.specs.Write.{checked}
 
 -- TMCHI 0 and Short ID 0
 abbrev bare : Unit

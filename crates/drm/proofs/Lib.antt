@@ -2,6 +2,16 @@ pub mod Checks
 pub mod Signed
 pub mod Front
 pub mod Body
+pub mod Ranges
+pub mod Fronts
+pub mod Filling
+pub mod Written
 pub mod Units
 pub mod Whole
+pub mod CheckWord
+pub mod Feeding
+pub mod Fed
+pub mod ReadBack
+pub mod WayBack
+pub mod Allowing
 pub mod Examples

@@ -1,0 +1,74 @@
+-- In range and with room the unit is filled in, else refused.
+use Prim.Native.Nat.{ℕ}
+use native.Mathlib.Omega.{arith}
+use mathlib.Core.Path.{_≡_, refl, sym, ap, ap₂, _∙_}
+use mathlib.Core.Bool.{Bool, _&&_}
+use mathlib.Core.List.{List, _++_}
+use lib.ListN.{length, drop}
+use lib.Seq.{length-take-le}
+use borrow.Author.Tests.{le-leb, lt-leb}
+use Rattle.bits.proofs.Choice.{and-right, chosen, passed-over}
+use Rattle.drm.specs.declared.Writing.the-variants.{Written}
+use Rattle.drm.specs.Write.{bytesAfter}
+use Rattle.drm.proofs.Ranges.{few-words}
+use Rattle.drm.proofs.Written.{fitting, written, no-room, unfit, written-bytes}
+use borrow.Author.Needs.{needs}
+use Rattle.drm.proofs.Unit.write.Statement.{statement}
+use Rattle.drm.proofs.Unit.write.Tie as tie
+
+can-write-requires : tie.Need-can-write-requires
+can-write-requires c κs = search needs
+
+unit-length-requires : tie.Need-unit-length-requires
+unit-length-requires c κs = few-words _ _ (fitting _ _ (sym (c .before .can-write .ensures) ∙ c .if1 .taken))
+
+slice-relend-prefix-fill : tie.Need-slice-relend-prefix-fill
+slice-relend-prefix-fill c = search needs
+
+slice-aggregate-fill : tie.Need-slice-aggregate-fill
+slice-aggregate-fill c = sym (length-take-le _ (c .before .before .before .before .before .before .before .args .out .now) (c .before .if2 .taken))
+
+fill-requires : tie.Need-fill-requires
+fill-requires c κs =
+    let b = c .before .before .before in (
+      fitting _ _ (sym (b .before .can-write .ensures) ∙ b .if1 .taken),
+      length-take-le _ (b .before .before .before .before .args .out .now) (c .before .if2 .taken) ∙ c .before .before .unit-length .ensures,
+    )
+
+same-length : tie.Need-same-length
+same-length c = search needs
+
+returns : tie.Need-returns
+returns c =
+    let b = c .before .before .before .before .before in
+    let a = b .before .before .before .before .before .args in
+    let can = sym (b .before .before .can-write .ensures) ∙ b .before .if1 .taken in (
+      written (a .self) (a .words .now) (length (a .out .now)) _ (b .unit-length .ensures) can (c .before .before .before .before .if2 .taken),
+      written-bytes (a .self) (a .words .now) (a .out .now) _ _ (c .before .before .fill .ensures),
+    )
+
+returns-2 : tie.Need-returns-2
+returns-2 c =
+    let b = c .before in
+    let a = b .before .before .before .before .before .args in
+    let can = sym (b .before .before .can-write .ensures) ∙ b .before .if1 .taken in
+    (no-room (a .self) (a .words .now) (length (a .out .now)) _ (b .unit-length .ensures) can (c .if2 .left), unfold bytesAfter in refl)
+
+returns-3 : tie.Need-returns-3
+returns-3 c =
+    let a = c .before .before .before .before .args in
+    (unfit (a .self) (a .words .now) (length (a .out .now)) (sym (c .before .can-write .ensures) ∙ c .if1 .left), unfold bytesAfter in refl)
+
+pub write-spec : {M : Type 1} → statement M
+write-spec =
+    tie.close
+    (tie.spec
+    can-write-requires
+    unit-length-requires
+    slice-relend-prefix-fill
+    slice-aggregate-fill
+    fill-requires
+    same-length
+    returns
+    returns-2
+    returns-3)
