@@ -43,14 +43,21 @@ unfolding words
 length-words w zero l = refl
 length-words w (suc n) l = ap suc (length-words w n (drop w l))
 
--- numbers in range come back
-pub words-flat : (w : ℕ) (xs : List ℕ) → ((i : ℕ) → getD xs i 0 < 2 ^ w) → words w (length xs) (flat w xs) ≡ xs
+-- numbers in range come back, whatever follows them
+pub words-front : (w : ℕ) (xs : List ℕ) (l : List Bool) → ((i : ℕ) → getD xs i 0 < 2 ^ w) → words w (length xs) (flat w xs ++ l) ≡ xs
 unfolding words flat
-words-flat w [] h = refl
-words-flat w (x ∷ xs) h =
+words-front w [] l h = refl
+words-front w (x ∷ xs) l h =
+    let rest = flat w xs ++ l in
+    let e : bits w x ++ flat w xs ++ l ≡ bits w x ++ rest = append-assoc (bits w x) (flat w xs) l in
     ap₂ (λ (n : ℕ) (ns : List ℕ). n ∷ ns)
-    (ap val (take-at (bits w x) (flat w xs) w (length-bits w x)) ∙ val-bits-lt w x (h 0))
-    (ap (words w (length xs)) (drop-at (bits w x) (flat w xs) w (length-bits w x)) ∙ words-flat w xs (λ i. h (suc i)))
+    (ap (λ (m : List Bool). val (take w m)) e ∙ ap val (take-at (bits w x) rest w (length-bits w x)) ∙ val-bits-lt w x (h 0))
+    (ap (λ (m : List Bool). words w (length xs) (drop w m)) e
+    ∙ ap (words w (length xs)) (drop-at (bits w x) rest w (length-bits w x))
+    ∙ words-front w xs l (λ i. h (suc i)))
+
+pub words-flat : (w : ℕ) (xs : List ℕ) → ((i : ℕ) → getD xs i 0 < 2 ^ w) → words w (length xs) (flat w xs) ≡ xs
+words-flat w xs h = ap (words w (length xs)) (sym (append-nil (flat w xs))) ∙ words-front w xs [] h
 
 -- bits come back if there are n numbers of them
 pub flat-words : (w n : ℕ) (l : List Bool) → length l ≡ n * w → flat w (words w n l) ≡ l

@@ -1,4 +1,5 @@
 pub mod Choice
+pub mod Checks
 pub mod Value
 pub mod Stretch
 pub mod Fields

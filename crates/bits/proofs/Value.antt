@@ -1,6 +1,6 @@
 -- The laws of `bits` and `val`, each over the width.
 use Prim.Native.Nat.{ℕ, zero, suc, _+_, _*_, _/_, _%_, _^_, _<_, _≤_}
-use native.Mathlib.Nat.{mod-lt, mod-eq-of-lt, mod-mod, mod-one, zero-mul, zero-add, add-zero, add-mul, mul-assoc, add-assoc, pow-succ', pow-suc, mul-comm}
+use native.Mathlib.Nat.{zero-mod, mod-lt, mod-eq-of-lt, mod-mod, mod-one, zero-mul, zero-add, add-zero, add-mul, mul-assoc, add-assoc, pow-succ', pow-suc, mul-comm}
 use native.Mathlib.Numerals.{one-add}
 use native.Mathlib.Omega.{arith}
 use mathlib.Core.Path.{_≡_, refl, sym, ap, ap₂, subst, _∙_}
@@ -122,3 +122,6 @@ allZero-val (true ∷ l) =
     let p = pow-pos (length l) in
     sym (ne-eqb (1 * 2 ^ length l + val l) 0 (λ e. omega arith))
 allZero-val (false ∷ l) = allZero-val l ∙ ap (λ (n : ℕ). eqb n 0) (sym (ap (λ (n : ℕ). n + val l) (zero-mul (2 ^ length l)) ∙ zero-add (val l)))
+
+pub zero-bits : (w : ℕ) → allZero (bits w 0) ≡ true
+zero-bits w = allZero-val (bits w 0) ∙ ap (λ (n : ℕ). eqb n 0) (val-bits w 0 ∙ zero-mod (2 ^ w))

@@ -1,3 +1,4 @@
 pub mod Bits
 pub mod Fields
 pub mod Overlay
+pub mod Checks

@@ -1,4 +1,5 @@
 pub mod Xor
 pub mod Linear
 pub mod ByteStep
+pub mod Width
 pub mod Examples

@@ -1,13 +1,13 @@
 -- A writer writes just the units that the rules allow.
 use Prim.Native.Nat.{ℕ, _≤_}
-use mathlib.Core.Path.{_≡_, refl, sym, ap₂, _∙_}
+use mathlib.Core.Path.{_≡_, refl, sym, ap₂}
 use mathlib.Core.Logic.{_↔_}
 use mathlib.Core.Bool.{Bool, true, _&&_}
 use mathlib.Core.List.{List}
 use lib.ListN.{length}
 use Rattle.drm.specs.declared.Unit.{Unit}
 use Rattle.drm.specs.declared.Writing.the-variants.{Written}
-use Rattle.drm.specs.Allowed.{Bare, Headed, Whole, Allowed}
+use Rattle.drm.specs.Allowed.{Whole, Allowed}
 use Rattle.drm.specs.Write.{unitLength, canWrite, writeUnit}
 use Rattle.drm.proofs.Ranges.{bare-of, headed-of, tmchi-small, id-small, short, unit-allowed}
 use Rattle.drm.proofs.Fed.{whole-means}

@@ -1,10 +1,10 @@
 -- The user words and the padding.
 use Prim.Native.Nat.{ℕ, zero, suc, _+_, _-_, _*_, _/_, _%_, _<_, _≤_}
-use native.Mathlib.Nat.{div-add-mod', suc-mul, zero-mul, add-zero, add-comm}
+use native.Mathlib.Nat.{div-add-mod', suc-mul, zero-mul, add-comm}
 use native.Mathlib.Omega.{arith}
-use mathlib.Core.Path.{_≡_, refl, sym, ap, ap₂, _∙_}
+use mathlib.Core.Path.{_≡_, refl, sym, ap, _∙_}
 use mathlib.Core.Bool.{Bool}
-use mathlib.Core.List.{List, []}
+use mathlib.Core.List.{List}
 use lib.ListN.{length, getD, take, drop, length-drop}
 use lib.Seq.{take-all, drop-drop}
 use lib.Dec.{leb}
@@ -12,10 +12,11 @@ use borrow.Author.Tests.{leb-true}
 use Rattle.bits.specs.Bits.{val, allZero}
 use Rattle.bits.specs.Fields.{flat, words}
 use Rattle.bits.specs.Overlay.{stretch}
+use Rattle.bits.specs.Checks.{must}
 use Rattle.bits.proofs.Fields.{length-flat}
+use Rattle.bits.proofs.Checks.{passed}
 use Rattle.drm.specs.Payload.{countFrom, padding}
-use Rattle.drm.specs.Read.{must, wordsRefusal}
-use Rattle.drm.proofs.Checks.{passed}
+use Rattle.drm.specs.Read.{wordsRefusal}
 
 -- word i of a run, and 0 after its last
 pub word-in : (w m i : ℕ) (l : List Bool) → i < m → getD (words w m l) i 0 ≡ val (stretch (i * w) w l)

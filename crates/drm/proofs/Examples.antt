@@ -1,11 +1,11 @@
 -- Units read and written, computed: the lengths of document 01 with TMCHI 0, a header, the signs of an LTO, and whole messages.
-use Prim.Native.Nat.{ℕ}
 use mathlib.Core.Path.{_≡_, refl}
-use mathlib.Core.List.{List, [], _∷_, _++_}
+use mathlib.Core.List.{[], _∷_}
 use lib.ListN.{replicate}
 use lib.IntN.{pos, negsuc}
 use Rattle.bits.specs.Bits.{bit, num, bits, val, allZero}
 use Rattle.bits.specs.Fields.{flat, words, unpack, pack}
+use Rattle.bits.specs.Checks.{firstOf, unless}
 use Rattle.assembler.proofs.Examples.{computing}
 use Rattle.crc.specs.Register.{shifted, entered, checkWord}
 use Rattle.drm.specs.declared.Unit as drm
@@ -13,7 +13,7 @@ use Rattle.drm.specs.declared.Reading.the-variants.{Taken, Refused}
 use Rattle.drm.specs.declared.Writing.the-variants as written
 use Rattle.drm.specs.Offset.{ltoOf, ltoField}
 use Rattle.drm.specs.Payload.{uaFlag, aid, headerBits, wordsAt, unitOf}
-use Rattle.drm.specs.Read.{firstOf, fieldRefusal, wordsRefusal, payloadRefusal, unitRefusal, unless, taken, readUnit}
+use Rattle.drm.specs.Read.{fieldRefusal, wordsRefusal, payloadRefusal, unitRefusal, taken, readUnit}
 use Rattle.drm.specs.Messages.{isEmpty, isTaken, begins, passes, wholeFrom}
 use Rattle.drm.specs.Write.{bareFits, headedFits, headerFits, fieldsFit, frontWidth, unitFits, canWrite, frontBits, payloadBits, checked, unitBytes, writeUnit, bytesAfter}
 

@@ -1,12 +1,13 @@
 -- Whole messages: what the writer's test says of the words, one by one and as calls of a fresh assembler.
-use Prim.Native.Nat.{ℕ, _^_, _<_}
+use Prim.Native.Nat.{ℕ, zero, suc, _^_, _<_}
 use native.Mathlib.Omega.{arith}
 use mathlib.Core.Path.{_≡_, refl, sym, ap, ap₂, _∙_}
 use mathlib.Core.Logic.{_↔_}
 use mathlib.Core.Bool.{Bool, true, false, _&&_, _||_, not}
 use mathlib.Core.List.{List, [], _∷_, _++_}
-use lib.Dec.{ltb}
-use borrow.Author.Tests.{ltb-false}
+use lib.ListN.{getD}
+use lib.Dec.{ltb, lit<}
+use borrow.Author.Tests.{ltb-true, ltb-false}
 use Rattle.bits.proofs.Choice.{and-left, and-right}
 use Rattle.word.specs.Kind.{kindOf}
 use Rattle.transmission.specs.Demand3.{All}
@@ -19,7 +20,7 @@ use Rattle.assembler.specs.Step.{stepOf}
 use Rattle.assembler.specs.Calls.{calls, after}
 use Rattle.assembler.proofs.Refusals.{no-word-refused}
 use Rattle.drm.specs.Messages.{isEmpty, isTaken, begins, passes, wholeFrom, whole}
-use Rattle.drm.specs.Allowed.{allBelow, Whole}
+use Rattle.drm.specs.Allowed.{Whole}
 
 -- a call that was not refused, and a state with no open message
 abbrev Taken : Step → Type 0
@@ -73,13 +74,13 @@ module _ (a : Assembler) (n : ℕ) (ns : List ℕ) (w : wholeFrom a (n ∷ ns) �
       either false e = e
 
 -- numbers of 2^37 or more are refused
-pub whole-below : (ws : List ℕ) (a : Assembler) → wholeFrom a ws ≡ true → allBelow (2 ^ 37) ws ≡ true
-unfolding allBelow
-whole-below [] a w = refl
-whole-below (n ∷ ns) a w = ap₂ (λ (s t : Bool). s && t) (below (ltb n (2 ^ 37)) refl) (whole-below ns (stepOf a n .next) (later a n ns w))
+pub whole-below : (ws : List ℕ) (a : Assembler) → wholeFrom a ws ≡ true → (i : ℕ) → getD ws i 0 < 2 ^ 37
+whole-below [] a w i = lit< tt
+whole-below (n ∷ ns) a w (suc i) = whole-below ns (stepOf a n .next) (later a n ns w) i
+whole-below (n ∷ ns) a w zero = below (ltb n (2 ^ 37)) refl
   where
-    below : (t : Bool) → ltb n (2 ^ 37) ≡ t → ltb n (2 ^ 37) ≡ true
-    below true e = e
+    below : (t : Bool) → ltb n (2 ^ 37) ≡ t → n < 2 ^ 37
+    below true e = ltb-true n (2 ^ 37) e
     below false e = absurd (not-refused a n ns w 9 (ap (λ (s : Step). s .answer) (no-word-refused a n (ltb-false n (2 ^ 37) e))))
 
 -- calls from a state on

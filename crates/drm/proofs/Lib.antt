@@ -1,4 +1,3 @@
-pub mod Checks
 pub mod Signed
 pub mod Front
 pub mod Body
@@ -8,7 +7,6 @@ pub mod Filling
 pub mod Written
 pub mod Units
 pub mod Whole
-pub mod CheckWord
 pub mod Feeding
 pub mod Fed
 pub mod ReadBack

@@ -1,50 +1,34 @@
 -- The fields of a payload that was written, read back.
-use Prim.Native.Nat.{ℕ, zero, suc, _+_, _-_, _*_, _/_, _%_, _^_, _≤_, _<_}
-use native.Mathlib.Nat.{mod-eq-of-lt}
+use Prim.Native.Nat.{ℕ, zero, suc, _+_, _-_, _*_, _%_, _^_, _≤_, _<_}
 use native.Mathlib.Omega.{arith}
 use mathlib.Core.Path.{_≡_, refl, sym, ap, ap₂, _∙_}
-use mathlib.Core.Bool.{Bool, true, false, _&&_, _||_, cond}
+use mathlib.Core.Bool.{Bool, true, false, cond}
 use mathlib.Core.List.{List, [], _∷_, _++_, append-assoc}
 use lib.ListN.{length, take, drop, getD}
 use lib.Seq.{take-at, drop-at, drop-drop, length-take-le}
 use lib.IntN.{ℤ, pos, negsuc, negℤ}
-use lib.Dec.{leb, ltb, eqb}
-use borrow.Author.Tests.{eqb-true, leb-true, ltb-true, lt-ltb, le-ltb, le-leb}
+use lib.Dec.{ltb, eqb, lit<}
+use borrow.Author.Tests.{eqb-true, ltb-true, le-ltb, le-leb}
 use Rattle.bits.specs.Bits.{bit, num, bits, val}
 use Rattle.bits.specs.Fields.{flat, words, unpack, pack, fits}
 use Rattle.bits.specs.Overlay.{stretch}
-use Rattle.bits.proofs.Choice.{and-left, and-right, chosen, passed-over}
-use Rattle.bits.proofs.Value.{length-bits, val-bits-lt}
+use Rattle.bits.proofs.Choice.{and-left, chosen, passed-over}
+use Rattle.bits.proofs.Value.{length-bits}
+use Rattle.bits.proofs.Fields.{words-front}
 use Rattle.bits.proofs.Formats.{length-pack, unpack-bits, unpack-pack}
 use Rattle.drm.specs.declared.Unit.{Unit}
 use Rattle.drm.specs.Format.{startFormat, headerFormat, alertC}
 use Rattle.drm.specs.Offset.{ltoOf, ltoField}
 use Rattle.drm.specs.Payload.{start, tmchi, uaFlag, aid, headerAt, headerBits, header, systemCount, systemAt, systemWords, wordsAt, unitOf}
 use Rattle.drm.specs.Read.{fieldRefusal}
-use Rattle.drm.specs.Allowed.{allBelow, Bare, Headed, Held}
+use Rattle.drm.specs.Allowed.{Bare, Headed, Held}
 use Rattle.drm.specs.Write.{startValues, headerValues, places, frontWidth, lead, frontBits}
 
--- numbers in range come back, whatever follows them
-pub words-front : (w : ℕ) (xs : List ℕ) (l : List Bool) → allBelow (2 ^ w) xs ≡ true → words w (length xs) (flat w xs ++ l) ≡ xs
-unfolding words flat allBelow
-words-front w [] l h = refl
-words-front w (x ∷ xs) l h =
-    let rest = flat w xs ++ l in
-    let e : bits w x ++ flat w xs ++ l ≡ bits w x ++ rest = append-assoc (bits w x) (flat w xs) l in
-    ap₂ (λ (n : ℕ) (ns : List ℕ). n ∷ ns)
-    (ap (λ (m : List Bool). val (take w m)) e
-    ∙ ap val (take-at (bits w x) rest w (length-bits w x))
-    ∙ val-bits-lt w x (ltb-true x (2 ^ w) (and-left (ltb x (2 ^ w)) (allBelow (2 ^ w) xs) h)))
-    (ap (λ (m : List Bool). words w (length xs) (drop w m)) e
-    ∙ ap (words w (length xs)) (drop-at (bits w x) rest w (length-bits w x))
-    ∙ words-front w xs l (and-right (ltb x (2 ^ w)) (allBelow (2 ^ w) xs) h))
-
-below-take : (m k : ℕ) (xs : List ℕ) → allBelow m xs ≡ true → allBelow m (take k xs) ≡ true
-unfolding allBelow
-below-take m zero xs h = refl
-below-take m (suc k) [] h = refl
-below-take m (suc k) (x ∷ xs) h =
-    ap₂ (λ (a b : Bool). a && b) (and-left (ltb x m) (allBelow m xs) h) (below-take m k xs (and-right (ltb x m) (allBelow m xs) h))
+below-take : (m k : ℕ) (xs : List ℕ) → 0 < m → ((i : ℕ) → getD xs i 0 < m) → (i : ℕ) → getD (take k xs) i 0 < m
+below-take m zero xs p h i = p
+below-take m (suc k) [] p h i = p
+below-take m (suc k) (x ∷ xs) p h zero = h 0
+below-take m (suc k) (x ∷ xs) p h (suc i) = below-take m k xs p (λ j. h (suc j)) i
 
 -- an LTO in range comes back from its field
 lto-again : (z : ℤ) → ltoField z < 64 → ltoOf (ltoField z) ≡ z
@@ -159,9 +143,11 @@ module _ (u : Unit) (s : fits startFormat (startValues u) ≡ true) (h : fits he
     abbrev hl : List Bool
     hl = frontBits u ++ r
 
-    places-fit : allBelow (2 ^ 16) (places u) ≡ true
-    unfolding allBelow
-    places-fit = simp (lt-ltb (u .first) (2 ^ 16) (held .first), lt-ltb (u .second) (2 ^ 16) (held .second), lt-ltb (u .third) (2 ^ 16) (held .third))
+    places-fit : (i : ℕ) → getD (places u) i 0 < 2 ^ 16
+    places-fit zero = held .first
+    places-fit (suc zero) = held .second
+    places-fit (suc (suc zero)) = held .third
+    places-fit (suc (suc (suc i))) = lit< tt
 
     abbrev after : List Bool
     after = bits 2 0 ++ (pack headerFormat (headerValues u) ++ r)
@@ -224,7 +210,7 @@ module _ (u : Unit) (s : fits startFormat (startValues u) ≡ true) (h : fits he
         let few = take (u .system) (places u) in
         ap₂ (λ (m : ℕ) (x : List Bool). words 16 m x) headed-count (ap (λ (m : ℕ). drop (m + 24) hl) headed-at ∙ drop-32)
         ∙ ap (λ (m : ℕ). words 16 m r) (sym (length-take-le (u .system) (places u) (g .few)))
-        ∙ words-front 16 few t (below-take (2 ^ 16) (u .system) (places u) places-fit)
+        ∙ words-front 16 few t (below-take (2 ^ 16) (u .system) (places u) (lit< tt) places-fit)
 
     headed-lead : wordsAt hl ≡ lead u
     unfolding wordsAt frontWidth

@@ -1,5 +1,5 @@
 -- The unit in the bits before the check word.
-use Prim.Native.Nat.{ℕ, zero, suc, _+_, _-_, _*_, _/_, _%_, _<_, _≤_}
+use Prim.Native.Nat.{ℕ, _+_, _-_, _*_, _/_, _%_, _<_, _≤_}
 use native.Mathlib.Omega.{arith}
 use mathlib.Core.Path.{_≡_, refl, sym, ap, ap₂, subst, _∙_}
 use mathlib.Core.Bool.{Bool, true, false}
@@ -12,12 +12,12 @@ use Rattle.bits.specs.Overlay.{stretch}
 use Rattle.bits.proofs.Choice.{chosen, passed-over}
 use Rattle.bits.proofs.Value.{val-bits-lt}
 use Rattle.bits.proofs.Fields.{length-flat}
+use Rattle.bits.proofs.Checks.{neither}
 use Rattle.drm.specs.declared.Unit.{Unit}
 use Rattle.drm.specs.declared.Reading.the-variants.{Taken}
 use Rattle.drm.specs.Format.{startFormat, headerFormat}
 use Rattle.drm.specs.Payload.{start, tmchi, headerAt, headerBits, header, systemCount, systemAt, systemWords, wordsAt, countFrom, unitOf}
-use Rattle.drm.specs.Read.{fieldRefusal, wordsRefusal, payloadRefusal, taken, wordsAfter}
-use Rattle.drm.proofs.Checks.{neither}
+use Rattle.drm.specs.Read.{payloadRefusal, taken, wordsAfter}
 use Rattle.drm.proofs.Front.{bits-in, start-of, header-of, count-of, flag-small}
 use Rattle.drm.proofs.Body.{words-fit}
 

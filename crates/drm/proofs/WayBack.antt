@@ -1,47 +1,38 @@
 -- The way back: what is written reads back as the same unit and user words, and is refused only for want of room.
 use Prim.Native.Nat.{ℕ, _+_, _-_, _*_, _/_, _%_, _^_, _≤_, _<_}
-use native.Mathlib.Nat.{zero-mod}
 use native.Mathlib.Omega.{arith}
 use mathlib.Core.Path.{_≡_, refl, sym, ap, ap₂, _∙_}
 use mathlib.Core.Bool.{Bool, true, false, _&&_, cond}
-use mathlib.Core.List.{List, [], _∷_, _++_, append-assoc}
-use lib.ListN.{length, take, drop, length-append}
+use mathlib.Core.List.{List, _++_, append-assoc}
+use lib.ListN.{length, take, drop, getD, length-append}
 use lib.Seq.{take-at, drop-at, length-take-le}
 use lib.Arith.{digits-div, digits-mod}
 use lib.Dec.{leb, eqb}
 use borrow.Author.Tests.{eq-eqb, le-leb}
 use Rattle.bits.specs.Bits.{bits, val, allZero}
 use Rattle.bits.specs.Fields.{flat, words}
+use Rattle.bits.specs.Checks.{must, unless}
 use Rattle.bits.proofs.Choice.{chosen, passed-over}
-use Rattle.bits.proofs.Value.{length-bits, val-bits, val-bits-lt, allZero-val}
-use Rattle.bits.proofs.Fields.{length-flat, length-words, flat-words}
+use Rattle.bits.proofs.Value.{length-bits, val-bits-lt, zero-bits}
+use Rattle.bits.proofs.Fields.{length-flat, length-words, flat-words, words-front}
+use Rattle.bits.proofs.Checks.{second, last-check}
 use Rattle.crc.specs.Register.{checkWord}
+use Rattle.crc.proofs.Width.{check-lt}
 use Rattle.assembler.specs.declared.Assembler.the-variants.{Empty}
 use Rattle.drm.specs.declared.Unit.{Unit}
 use Rattle.drm.specs.declared.Reading.{Reading}
 use Rattle.drm.specs.declared.Reading.the-variants.{Taken, Refused}
 use Rattle.drm.specs.declared.Writing.the-variants as writing
 use Rattle.drm.specs.declared.Writing.the-variants.{Written}
-use Rattle.drm.specs.Payload.{start, aid, header, systemWords, wordsAt, countFrom, padding}
-use Rattle.drm.specs.Read.{payload, checkIn, must, lengthFits, fieldRefusal, wordsRefusal, payloadRefusal, unitRefusal, unless, taken, readUnit, wordsAfter}
+use Rattle.drm.specs.Payload.{start, aid, header, wordsAt, countFrom, padding}
+use Rattle.drm.specs.Read.{payload, checkIn, fieldRefusal, wordsRefusal, payloadRefusal, unitRefusal, taken, readUnit, wordsAfter}
 use Rattle.drm.specs.Write.{places, headerFits, frontWidth, lead, payloadLength, unitLength, unitFits, canWrite, frontBits, payloadBits, checked, unitBytes, writeUnit, bytesAfter}
-use Rattle.drm.specs.Allowed.{allBelow, Held}
-use Rattle.drm.proofs.Checks.{second}
-use Rattle.drm.proofs.CheckWord.{check-lt}
+use Rattle.drm.specs.Allowed.{Held}
 use Rattle.drm.proofs.Ranges.{bare-parts, headed-parts, short, ranges, header-part, start-fits, header-fits}
 use Rattle.drm.proofs.Written.{fitting, whole-part}
 use Rattle.drm.proofs.Fed.{whole-below}
 use Rattle.drm.proofs.Fronts.{front-length}
-use Rattle.drm.proofs.ReadBack.{Back, words-front, bare-back, headed-back, unit-back, fields-pass}
-
-zero-bits : (n : ℕ) → allZero (bits n 0) ≡ true
-zero-bits n = allZero-val (bits n 0) ∙ ap (λ (m : ℕ). eqb m 0) (val-bits n 0 ∙ zero-mod (2 ^ n))
-
--- with nothing else refused, only room is asked
-only-room : (t : Bool) (r : Reading) → unless (must t 15 0) r ≡ cond t r (Refused 15)
-unfolding unless
-only-room true r = refl
-only-room false r = refl
+use Rattle.drm.proofs.ReadBack.{Back, bare-back, headed-back, unit-back, fields-pass}
 
 -- a check word behind its bytes
 module _ (p : List ℕ) where
@@ -63,7 +54,7 @@ module _ (p : List ℕ) where
       ∙ ap val (flat-words 8 2 (bits 16 (checkWord p)) (length-bits 16 (checkWord p)))
       ∙ val-bits-lt 16 (checkWord p) (check-lt p)
 
-module _ (u : Unit) (ws : List ℕ) (held : Held u) (fit : unitFits u (length ws) ≡ true) (below : allBelow (2 ^ 37) ws ≡ true) where
+module _ (u : Unit) (ws : List ℕ) (held : Held u) (fit : unitFits u (length ws) ≡ true) (below : (i : ℕ) → getD ws i 0 < 2 ^ 37) where
   abbrev n : ℕ
   n = length ws
 
@@ -186,7 +177,7 @@ module _ (u : Unit) (ws : List ℕ) (held : Held u) (fit : unitFits u (length ws
   pub write-read : (room : ℕ) → readUnit (unitBytes u ws) room ≡ cond (leb n room) (Taken u n) (Refused 15)
   unfolding readUnit unitBytes payloadBits
   write-read room =
-      ap₂ unless (unit-pass room) (ap taken bits-back ∙ taken-back) ∙ only-room (leb n room) (Taken u n)
+      ap₂ (unless Refused) (unit-pass room) (ap taken bits-back ∙ taken-back) ∙ last-check Refused (leb n room) 14 (Taken u n)
 
   -- the words stand in the first cells, and later cells stay
   pub words-back : (out : List ℕ) → wordsAfter (Taken u n) (flat 8 (payload (unitBytes u ws))) out ≡ ws ++ drop n out

@@ -2,7 +2,7 @@
 use Prim.Native.Nat.{ℕ, _-_, _≤_}
 use native.Mathlib.Omega.{arith}
 use mathlib.Core.Path.{_≡_, sym, ap, _∙_}
-use mathlib.Core.Bool.{true, false, _&&_}
+use mathlib.Core.Bool.{true, false}
 use mathlib.Core.List.{List}
 use lib.ListN.{length, take, drop, length-drop}
 use lib.Seq.{length-take-le, take-all}
@@ -10,11 +10,12 @@ use lib.Dec.{leb, eqb}
 use borrow.Author.Tests.{leb-true, eq-eqb, ne-eqb}
 use Rattle.bits.specs.Bits.{val}
 use Rattle.bits.specs.Fields.{flat}
+use Rattle.bits.specs.Checks.{unless}
 use Rattle.bits.proofs.Choice.{and-left, and-right}
+use Rattle.bits.proofs.Checks.{passed, none, refused}
 use Rattle.crc.specs.Register.{checkWord}
 use Rattle.drm.specs.declared.Reading.the-variants.{Refused}
-use Rattle.drm.specs.Read.{lengthFits, checkIn, payload, payloadRefusal, unitRefusal, unless, taken, readUnit}
-use Rattle.drm.proofs.Checks.{passed, none, refused}
+use Rattle.drm.specs.Read.{lengthFits, checkIn, payload, payloadRefusal, unitRefusal, taken, readUnit}
 
 -- the test of the length
 pub in-range : (n : ℕ) → lengthFits n ≡ true → (8 ≤ n) × (n ≤ 128)
@@ -44,10 +45,10 @@ accepted s room e =
 -- and what is read of it
 pub unit-taken : (s : List ℕ) (room n : ℕ) → n ≡ unitRefusal s room → n ≡ 0 → taken (flat 8 (payload s)) ≡ readUnit s room
 unfolding readUnit
-unit-taken s room n e z = sym (none (unitRefusal s room) (taken (flat 8 (payload s))) (sym e ∙ z))
+unit-taken s room n e z = sym (none Refused (unitRefusal s room) (taken (flat 8 (payload s))) (sym e ∙ z))
 
 pub unit-refused : (s : List ℕ) (room n : ℕ) → n ≡ unitRefusal s room → (n ≡ 0 → ⊥) → Refused n ≡ readUnit s room
 unfolding readUnit
 unit-refused s room n e h =
     let t = taken (flat 8 (payload s)) in
-    sym (refused n t h) ∙ ap (λ (m : ℕ). unless m t) e
+    sym (refused Refused n t h) ∙ ap (λ (m : ℕ). unless Refused m t) e

@@ -2,11 +2,10 @@
 -- proofs/Allowing.antt.
 use Prim.Native.Nat.{ℕ, _^_, _≤_, _<_}
 use mathlib.Core.Path.{_≡_}
-use mathlib.Core.Bool.{Bool, true, _&&_}
-use mathlib.Core.List.{List, [], _∷_, _++_}
+use mathlib.Core.Bool.{true}
+use mathlib.Core.List.{List, _∷_, _++_}
 use lib.ListN.{length}
 use lib.IntN.{pos, natAbs}
-use lib.Dec.{ltb}
 use Rattle.word.specs.Kind.{kindOf}
 use Rattle.transmission.specs.Demand3.{All}
 use Rattle.assembler.specs.declared.Assembler.the-variants.{Empty}
@@ -16,11 +15,6 @@ use Rattle.drm.specs.declared.Unit.{Unit}
 use Rattle.drm.specs.Format.{longest}
 use Rattle.drm.specs.Messages.{begins}
 use Rattle.drm.specs.Write.{unitLength}
-
--- each number is below m
-unfoldable pub allBelow : ℕ → List ℕ → Bool
-allBelow m [] = true
-allBelow m (v ∷ vs) = ltb v m && allBelow m vs
 
 -- no header: every field after Short ID is 0, and there is a user word
 pub record Bare (u : Unit) (n : ℕ) : Type 0 where
@@ -50,6 +44,7 @@ pub record Whole (ws : List ℕ) : Type 0 where
   pub kept : (before : List ℕ) (n : ℕ) (rest : List ℕ) → ws ≡ before ++ n ∷ rest → begins (kindOf n) ≡ true → after Empty before ≡ Empty
   pub ended : after Empty ws ≡ Empty
 
+-- document 01's list of what a writer refuses, turned round
 pub record Allowed (u : Unit) (ws : List ℕ) : Type 0 where
   pub tmchi : u .tmchi < 2
   pub id : u .id < 2 ^ 4
@@ -58,7 +53,7 @@ pub record Allowed (u : Unit) (ws : List ℕ) : Type 0 where
   pub length : unitLength u (length ws) ≤ longest
   pub whole : Whole ws
 
--- the ranges of the code's fields for ECC and the system words are those of the paper's
+-- what the code's fields for ECC and the system words hold: 8 bits, and 16 each
 pub record Held (u : Unit) : Type 0 where
   pub ecc : u .ecc < 2 ^ 8
   pub first : u .first < 2 ^ 16

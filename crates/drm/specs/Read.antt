@@ -1,13 +1,13 @@
 -- What some bytes say as a DRM data unit (document 01, "DRM"; source 002, clause 5).
-use Prim.Native.Nat.{ℕ, zero, suc, _-_, _%_}
-use mathlib.Core.Bool.{Bool, _&&_, cond}
+use Prim.Native.Nat.{ℕ, _-_, _%_}
+use mathlib.Core.Bool.{Bool, _&&_}
 use mathlib.Core.List.{List, _++_}
 use lib.ListN.{length, getD, take, drop}
 use lib.Dec.{leb, eqb}
 use Rattle.bits.specs.Bits.{val, allZero}
 use Rattle.bits.specs.Fields.{flat, words}
+use Rattle.bits.specs.Checks.{must, firstOf, unless}
 use Rattle.crc.specs.Register.{checkWord}
-use Rattle.drm.specs.declared.Unit.{Unit}
 use Rattle.drm.specs.declared.Reading.{Reading}
 use Rattle.drm.specs.declared.Reading.the-variants.{Taken, Refused}
 use Rattle.drm.specs.Format.{shortest, longest, checkLength, wordWidth, alertC}
@@ -20,15 +20,6 @@ payload s = take (length s - checkLength) s
 -- the check word
 abbrev pub checkIn : List ℕ → ℕ
 checkIn s = val (flat 8 (drop (length s - checkLength) s))
-
--- a check, the refusal where it fails, and what the later checks give; 0 is no refusal
-abbrev pub must : Bool → ℕ → ℕ → ℕ
-must holds number later = cond holds later number
-
--- the first refusal of two
-unfoldable pub firstOf : ℕ → ℕ → ℕ
-firstOf zero m = m
-firstOf (suc n) m = suc n
 
 -- 8 to 128 bytes
 abbrev pub lengthFits : ℕ → Bool
@@ -62,18 +53,13 @@ unitRefusal s room =
     (must (eqb (checkIn s) (checkWord (payload s))) 4
     (payloadRefusal (flat 8 (payload s)) room))
 
--- what is read, unless there is a refusal
-unfoldable pub unless : ℕ → Reading → Reading
-unless zero r = r
-unless (suc n) r = Refused (suc n)
-
 -- the unit in the bits before the check word, and the number of its user words
 unfoldable pub taken : List Bool → Reading
 taken l = Taken (unitOf (start l) (header l) (systemWords l)) (countFrom (wordsAt l) l)
 
 -- a unit read into a buffer with room for so many words
 unfoldable pub readUnit : List ℕ → ℕ → Reading
-readUnit s room = unless (unitRefusal s room) (taken (flat 8 (payload s)))
+readUnit s room = unless Refused (unitRefusal s room) (taken (flat 8 (payload s)))
 
 -- the buffer afterwards: the first cells hold the words and later cells stay; a refusal leaves it
 unfoldable pub wordsAfter : Reading → List Bool → List ℕ → List ℕ

@@ -1,6 +1,5 @@
 // Whether user words are whole messages.
 ghost use mathlib.Core.Path.{_≡_};
-ghost use Rattle.assembler.specs.Step.{stepOf};
 ghost use Rattle.drm.specs.Messages.{isEmpty, isTaken, begins, whole};
 use assembler::Answer;
 use assembler::Assembler;

@@ -1,7 +1,7 @@
 -- What the reader answers, by the refusals of its two parts.
-use Prim.Native.Nat.{ℕ, zero, suc, _-_, _≤_}
+use Prim.Native.Nat.{ℕ, _-_, _≤_}
 use native.Mathlib.Omega.{arith}
-use mathlib.Core.Path.{_≡_, refl, sym, ap, _∙_}
+use mathlib.Core.Path.{_≡_, sym, ap, _∙_}
 use mathlib.Core.List.{List, _++_}
 use lib.ListN.{length, take, drop, length-drop}
 use lib.Seq.{take-all}
@@ -9,21 +9,13 @@ use lib.Dec.{leb}
 use borrow.Author.Tests.{leb-true}
 use Rattle.bits.specs.Bits.{allZero}
 use Rattle.bits.specs.Fields.{flat, words}
+use Rattle.bits.specs.Checks.{unless}
+use Rattle.bits.proofs.Checks.{none, refused}
 use Rattle.fig.specs.declared.Fig.{Fig}
-use Rattle.fig.specs.declared.Reading.{Reading}
 use Rattle.fig.specs.declared.Reading.the-variants.{Taken, Refused}
 use Rattle.fig.specs.Format.{wordWidth}
-use Rattle.fig.specs.Read.{countIn, padding, lengthFits, dataRefusal, unless, readData, wordsAfter}
+use Rattle.fig.specs.Read.{countIn, padding, lengthFits, dataRefusal, readData, wordsAfter}
 use Rattle.fig.proofs.Checks.{three}
-
-pub none : (n : ℕ) (r : Reading) → n ≡ 0 → unless n r ≡ r
-unfolding unless
-none n r e = ap (λ (m : ℕ). unless m r) e
-
-pub refused : (n : ℕ) (r : Reading) → (n ≡ 0 → ⊥) → unless n r ≡ Refused n
-unfolding unless
-refused zero r h = absurd (h refl)
-refused (suc n) r h = refl
 
 -- data that is not refused has room
 pub room : (w : ℕ) (bytes : List ℕ) (n : ℕ) → dataRefusal w bytes n ≡ 0 → countIn w bytes ≤ n
@@ -36,13 +28,13 @@ module _ (fig : Fig) (bytes out : List ℕ) (w : ℕ) (e : w ≡ wordWidth (fig 
   unfolding readData
   data-taken h =
       ap (λ (v : ℕ). Taken fig (countIn v bytes)) e
-      ∙ sym (none (dataRefusal (wordWidth (fig .d1)) bytes (length out)) _ (ap (λ (v : ℕ). dataRefusal v bytes (length out)) (sym e) ∙ h))
+      ∙ sym (none Refused (dataRefusal (wordWidth (fig .d1)) bytes (length out)) _ (ap (λ (v : ℕ). dataRefusal v bytes (length out)) (sym e) ∙ h))
 
   pub data-refused : (n : ℕ) → n ≡ dataRefusal w bytes (length out) → (n ≡ 0 → ⊥) → Refused n ≡ readData fig bytes (length out)
   unfolding readData
   data-refused n g h =
       let t = Taken fig (countIn (wordWidth (fig .d1)) bytes) in
-      sym (refused n t h) ∙ ap (λ (m : ℕ). unless m t) (g ∙ ap (λ (v : ℕ). dataRefusal v bytes (length out)) e)
+      sym (refused Refused n t h) ∙ ap (λ (m : ℕ). unless Refused m t) (g ∙ ap (λ (v : ℕ). dataRefusal v bytes (length out)) e)
 
   pub data-words : words w (countIn w bytes) (flat 8 bytes) ++ drop (countIn w bytes) out ≡ wordsAfter (Taken fig (countIn w bytes)) bytes out
   unfolding wordsAfter

@@ -1,15 +1,9 @@
--- Checks in order that refuse nothing all hold.
-use Prim.Native.Nat.{ℕ, suc}
-use native.Mathlib.Omega.{arith}
-use mathlib.Core.Path.{_≡_, refl}
-use mathlib.Core.Bool.{Bool, true, false}
-use Rattle.fig.specs.Read.{must}
+-- The checks of the data, where none refuses.
+use mathlib.Core.Path.{_≡_}
+use mathlib.Core.Bool.{Bool, true}
+use Rattle.bits.specs.Checks.{must}
+use Rattle.bits.proofs.Checks.{passed}
 
-pub passed : (t : Bool) (n later : ℕ) → must t (suc n) later ≡ 0 → (t ≡ true) × (later ≡ 0)
-passed true n later e = (refl, e)
-passed false n later e = absurd (omega arith)
-
--- those of the data
 pub three : (a b c : Bool) → must a 1 (must b 3 (must c 15 0)) ≡ 0 → (a ≡ true) × (b ≡ true) × (c ≡ true)
 three a b c e =
     let p = passed a 0 (must b 3 (must c 15 0)) e in

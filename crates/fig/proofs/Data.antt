@@ -11,9 +11,10 @@ use lib.Dec.{leb, eqb, lit≤}
 use Rattle.bits.specs.Bits.{allZero}
 use Rattle.bits.specs.Fields.{flat}
 use Rattle.bits.specs.Overlay.{stretch}
+use Rattle.bits.specs.Checks.{must}
 use Rattle.bits.proofs.Fields.{length-flat}
 use Rattle.fig.specs.Format.{wordWidth}
-use Rattle.fig.specs.Read.{countIn, padding, lengthFits, must, dataRefusal}
+use Rattle.fig.specs.Read.{countIn, padding, lengthFits, dataRefusal}
 
 module _ (w : ℕ) (bytes : List ℕ) where
   -- the words and the padding are all of the bytes

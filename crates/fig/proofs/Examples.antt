@@ -5,9 +5,10 @@ use mathlib.Core.Bool.{cond}
 use mathlib.Core.List.{List, [], _∷_}
 use Rattle.bits.specs.Bits.{bit, num, bits, val, allZero}
 use Rattle.bits.specs.Fields.{flat, words, unpack, pack}
+use Rattle.bits.specs.Checks.{unless}
 use Rattle.fig.specs.declared.Reading.the-variants.{Taken}
 use Rattle.fig.specs.Format.{wordWidth}
-use Rattle.fig.specs.Read.{lengthFits, fieldRefusal, headRefusal, dataRefusal, unless, readData, readFig}
+use Rattle.fig.specs.Read.{lengthFits, fieldRefusal, headRefusal, dataRefusal, readData, readFig}
 use Rattle.fig.specs.Write.{figBytes}
 
 -- the two words of a multi-group message, for TCId 1

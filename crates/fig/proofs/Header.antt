@@ -12,9 +12,9 @@ use Rattle.bits.specs.Fields.{flat, unpack}
 use Rattle.bits.proofs.Choice.{and-left, and-right}
 use Rattle.bits.proofs.Value.{bits-val}
 use Rattle.bits.proofs.Fields.{length-flat}
+use Rattle.bits.proofs.Checks.{passed}
 use Rattle.fig.specs.Format.{figFormat}
 use Rattle.fig.specs.Read.{fields, fieldRefusal, headRefusal}
-use Rattle.fig.proofs.Checks.{passed}
 
 pub fields-of : (s : List ℕ) → 2 ≤ length s → unpack figFormat (bits 16 (val (flat 8 (take 2 s)))) ≡ fields s
 fields-of s h = ap (unpack figFormat) (bits-val (flat 8 (take 2 s)) 16 (length-flat 8 (take 2 s) ∙ ap (λ (n : ℕ). n * 8) (length-take-le 2 s h)))

@@ -1,13 +1,14 @@
 -- What the writer's test of ranges says, part by part.
-use Prim.Native.Nat.{ℕ, suc, _-_, _*_, _^_, _≤_, _<_}
+use Prim.Native.Nat.{ℕ, zero, suc, _-_, _*_, _^_, _≤_, _<_}
 use native.Mathlib.Omega.{arith}
 use mathlib.Core.Path.{_≡_, ap}
 use mathlib.Core.Bool.{Bool, true, false, _&&_, cond}
-use mathlib.Core.List.{List}
+use mathlib.Core.List.{List, [], _∷_}
 use lib.ListN.{length, drop, getD}
 use lib.Seq.{drop-cons}
+use lib.Pow.{pow-pos}
 use lib.Dec.{leb, ltb, eqb}
-use borrow.Author.Tests.{leb-true, le-leb, lt-ltb}
+use borrow.Author.Tests.{leb-true, le-leb, ltb-true, lt-ltb}
 use Rattle.bits.specs.Fields.{fits}
 use Rattle.bits.proofs.Choice.{and-left, and-right}
 use Rattle.fig.specs.declared.Fig.{Fig}
@@ -18,6 +19,12 @@ use Rattle.fig.specs.Write.{allBelow, figFits, figLength, figValues}
 pub below-next : (m : ℕ) (ws : List ℕ) (i : ℕ) → i < length ws → allBelow m (drop i ws) ≡ ltb (getD ws i 0) m && allBelow m (drop (suc i) ws)
 unfolding allBelow
 below-next m ws i h = ap (allBelow m) (drop-cons ws i 0 h)
+
+below-each : (m : ℕ) (ws : List ℕ) → 0 < m → allBelow m ws ≡ true → (i : ℕ) → getD ws i 0 < m
+unfolding allBelow
+below-each m [] h e i = h
+below-each m (v ∷ vs) h e zero = ltb-true v m (and-left (ltb v m) (allBelow m vs) e)
+below-each m (v ∷ vs) h e (suc i) = below-each m vs h (and-right (ltb v m) (allBelow m vs) e) i
 
 -- six words of 37 bits and 14 of 16 take at most 28 bytes
 most-bits : (t : Bool) (n : ℕ) → n ≤ cond t 6 14 → n * cond t 37 16 ≤ 224
@@ -40,8 +47,8 @@ module _ (fig : Fig) (ws : List ℕ) (fit : figFits fig ws ≡ true) where
   unfolding figFits
   parts = all-five (ltb (fig .d1) 2) (ltb (fig .tcid) 8) (leb 1 (length ws)) (leb (length ws) (mostWords (fig .d1))) (allBelow (2 ^ wordWidth (fig .d1)) ws) fit
 
-  pub all-below : allBelow (2 ^ wordWidth (fig .d1)) ws ≡ true
-  all-below = parts .4
+  pub each-below : (i : ℕ) → getD ws i 0 < 2 ^ wordWidth (fig .d1)
+  each-below = below-each (2 ^ wordWidth (fig .d1)) ws (pow-pos (wordWidth (fig .d1))) (parts .4)
 
   pub some-words : 1 ≤ length ws
   some-words = leb-true 1 (length ws) (parts .2)

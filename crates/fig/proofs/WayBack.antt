@@ -1,56 +1,32 @@
 -- The way back: what is written reads back as the same D1, TCId and words, and is refused only for want of room.
-use Prim.Native.Nat.{ℕ, _+_, _-_, _*_, _/_, _%_, _^_, _≤_, _<_}
-use native.Mathlib.Nat.{zero-mod}
+use Prim.Native.Nat.{ℕ, _+_, _-_, _*_, _/_, _%_, _≤_, _<_}
 use native.Mathlib.Omega.{arith}
 use mathlib.Core.Path.{_≡_, refl, sym, ap, ap₂, _∙_}
 use mathlib.Core.Bool.{Bool, true, false, _&&_, cond}
-use mathlib.Core.List.{List, [], _∷_, _++_, append-assoc}
+use mathlib.Core.List.{List, _++_}
 use lib.ListN.{length, take, drop, length-append, length-drop}
 use lib.Seq.{take-at, drop-at}
 use lib.Arith.{digits-div, digits-mod}
-use lib.Dec.{leb, eqb, ltb}
-use borrow.Author.Tests.{eq-eqb, le-leb, ltb-true}
-use Rattle.bits.specs.Bits.{bits, val, allZero}
+use lib.Dec.{leb}
+use borrow.Author.Tests.{eq-eqb, le-leb}
+use Rattle.bits.specs.Bits.{bits, allZero}
 use Rattle.bits.specs.Fields.{flat, words, unpack, pack}
-use Rattle.bits.proofs.Choice.{and-left, and-right, chosen, passed-over}
-use Rattle.bits.proofs.Value.{length-bits, val-bits, val-bits-lt, allZero-val}
-use Rattle.bits.proofs.Fields.{length-flat, length-words, flat-words, take-flat, drop-flat}
+use Rattle.bits.specs.Checks.{must, unless}
+use Rattle.bits.proofs.Choice.{chosen, passed-over}
+use Rattle.bits.proofs.Value.{length-bits, zero-bits}
+use Rattle.bits.proofs.Fields.{length-flat, length-words, flat-words, words-front, take-flat, drop-flat}
 use Rattle.bits.proofs.Formats.{length-pack, unpack-pack}
+use Rattle.bits.proofs.Checks.{none, last-check}
 use Rattle.fig.specs.declared.Fig.{Fig}
 use Rattle.fig.specs.declared.Reading.{Reading}
 use Rattle.fig.specs.declared.Reading.the-variants.{Taken, Refused}
 use Rattle.fig.specs.declared.Writing.the-variants as writing
 use Rattle.fig.specs.declared.Writing.the-variants.{Written}
 use Rattle.fig.specs.Format.{figFormat, wordWidth}
-use Rattle.fig.specs.Read.{fields, figOf, countIn, padding, must, fieldRefusal, headRefusal, dataRefusal, unless, readData, readFig, wordsAfter}
-use Rattle.fig.specs.Write.{allBelow, figFits, dataLength, figLength, figValues, dataBits, figBytes, writeFig, bytesAfter}
-use Rattle.fig.proofs.Answers.{none}
+use Rattle.fig.specs.Read.{fields, figOf, countIn, padding, fieldRefusal, headRefusal, dataRefusal, readData, readFig, wordsAfter}
+use Rattle.fig.specs.Write.{figFits, dataLength, figLength, figValues, dataBits, figBytes, writeFig, bytesAfter}
 use Rattle.fig.proofs.Data.{width-bounds}
-use Rattle.fig.proofs.Ranges.{all-below, some-words, bits-fit, header-fits}
-
--- numbers in range come back, whatever follows them
-words-front : (w : ℕ) (xs : List ℕ) (l : List Bool) → allBelow (2 ^ w) xs ≡ true → words w (length xs) (flat w xs ++ l) ≡ xs
-unfolding words flat allBelow
-words-front w [] l h = refl
-words-front w (x ∷ xs) l h =
-    let rest = flat w xs ++ l in
-    let e : bits w x ++ flat w xs ++ l ≡ bits w x ++ rest = append-assoc (bits w x) (flat w xs) l in
-    ap₂ (λ (n : ℕ) (ns : List ℕ). n ∷ ns)
-    (ap (λ (m : List Bool). val (take w m)) e
-    ∙ ap val (take-at (bits w x) rest w (length-bits w x))
-    ∙ val-bits-lt w x (ltb-true x (2 ^ w) (and-left (ltb x (2 ^ w)) (allBelow (2 ^ w) xs) h)))
-    (ap (λ (m : List Bool). words w (length xs) (drop w m)) e
-    ∙ ap (words w (length xs)) (drop-at (bits w x) rest w (length-bits w x))
-    ∙ words-front w xs l (and-right (ltb x (2 ^ w)) (allBelow (2 ^ w) xs) h))
-
-zero-bits : (n : ℕ) → allZero (bits n 0) ≡ true
-zero-bits n = allZero-val (bits n 0) ∙ ap (λ (m : ℕ). eqb m 0) (val-bits n 0 ∙ zero-mod (2 ^ n))
-
--- with nothing else refused, only room is asked
-only-room : (t : Bool) (r : Reading) → unless (must t 15 0) r ≡ cond t r (Refused 15)
-unfolding unless
-only-room true r = refl
-only-room false r = refl
+use Rattle.fig.proofs.Ranges.{each-below, some-words, bits-fit, header-fits}
 
 module _ (fig : Fig) (ws : List ℕ) where
   abbrev w : ℕ
@@ -136,15 +112,15 @@ module _ (fig : Fig) (ws : List ℕ) where
     pub write-read : (room : ℕ) → readFig s room ≡ cond (leb (length ws) room) (Taken fig (length ws)) (Refused 15)
     unfolding readFig readData
     write-read room =
-        none (headRefusal s) _ head-passes
+        none Refused (headRefusal s) _ head-passes
         ∙ ap (λ (f : List ℕ). readData (figOf f) (drop 2 s) room) fields-back
-        ∙ ap₂ (λ (m k : ℕ). unless m (Taken fig k)) (data-passes room) count-back
-        ∙ only-room (leb (length ws) room) (Taken fig (length ws))
+        ∙ ap₂ (λ (m k : ℕ). unless Refused m (Taken fig k)) (data-passes room) count-back
+        ∙ last-check Refused (leb (length ws) room) 14 (Taken fig (length ws))
 
     -- the words stand in the first cells, and later cells stay
     pub words-back : (out : List ℕ) → wordsAfter (Taken fig (length ws)) (drop 2 s) out ≡ ws ++ drop (length ws) out
     unfolding wordsAfter
-    words-back out = ap (λ (l : List ℕ). l ++ drop (length ws) out) (ap (words w (length ws)) data-back ∙ words-front w ws (bits left 0) (all-below fig ws fit))
+    words-back out = ap (λ (l : List ℕ). l ++ drop (length ws) out) (ap (words w (length ws)) data-back ∙ words-front w ws (bits left 0) (each-below fig ws fit))
 
 -- what is written is in range, and n is its length
 written-fits : (fig : Fig) (ws : List ℕ) (room n : ℕ) → writeFig fig ws room ≡ Written n → (figFits fig ws ≡ true) × (figLength fig (length ws) ≡ n)

@@ -12,23 +12,25 @@ use lib.Dec.{leb, eqb}
 use borrow.Author.Tests.{eqb-true, leb-true, lt-ltb}
 use Rattle.bits.specs.Bits.{bits, val, allZero}
 use Rattle.bits.specs.Fields.{flat, words, unpack, pack}
+use Rattle.bits.specs.Checks.{must, unless}
 use Rattle.bits.proofs.Choice.{and-left, and-right}
 use Rattle.bits.proofs.Value.{val-lt, bits-val, allZero-val}
 use Rattle.bits.proofs.Fields.{length-flat, flat-append, length-words, words-flat}
 use Rattle.bits.proofs.Formats.{pack-unpack}
+use Rattle.bits.proofs.Checks.{passed}
 use Rattle.fig.specs.declared.Fig.{Fig}
 use Rattle.fig.specs.declared.Reading.{Reading}
-use Rattle.fig.specs.declared.Reading.the-variants.{Taken}
+use Rattle.fig.specs.declared.Reading.the-variants.{Taken, Refused}
 use Rattle.fig.specs.Format.{figFormat, wordWidth, mostWords}
-use Rattle.fig.specs.Read.{fields, figOf, countIn, padding, lengthFits, must, fieldRefusal, headRefusal, dataRefusal, unless, readData, readFig}
+use Rattle.fig.specs.Read.{fields, figOf, countIn, padding, lengthFits, fieldRefusal, headRefusal, dataRefusal, readData, readFig}
 use Rattle.fig.specs.Write.{allBelow, figFits, dataLength, figLength, figValues, dataBits, figBytes}
-use Rattle.fig.proofs.Checks.{passed, three}
+use Rattle.fig.proofs.Checks.{three}
 use Rattle.fig.proofs.Header.{length-fits}
 use Rattle.fig.proofs.Data.{all-bits, padding-length}
 use Rattle.fig.proofs.Ranges.{fits-of}
 
 -- what is taken had no refusal
-not-refused : (n : ℕ) (r : Reading) (fig : Fig) (k : ℕ) → unless n r ≡ Taken fig k → (n ≡ 0) × (r ≡ Taken fig k)
+not-refused : (n : ℕ) (r : Reading) (fig : Fig) (k : ℕ) → unless Refused n r ≡ Taken fig k → (n ≡ 0) × (r ≡ Taken fig k)
 unfolding unless
 not-refused zero r fig k e = (refl, e)
 not-refused (suc n) r fig k e = let z : _≡_ {A = ℕ} 0 1 = cc in absurd (omega arith)

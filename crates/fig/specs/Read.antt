@@ -1,11 +1,12 @@
 -- What some bytes say as a FIG 5/1 (document 01, "FIG 5/1"; source 000, clause 5).
-use Prim.Native.Nat.{ℕ, zero, suc, _-_, _*_, _/_, _%_}
-use mathlib.Core.Bool.{Bool, _&&_, cond}
+use Prim.Native.Nat.{ℕ, _-_, _*_, _/_, _%_}
+use mathlib.Core.Bool.{Bool, _&&_}
 use mathlib.Core.List.{List, _++_}
 use lib.ListN.{length, getD, take, drop}
 use lib.Dec.{leb, eqb}
 use Rattle.bits.specs.Bits.{allZero}
 use Rattle.bits.specs.Fields.{flat, words, unpack}
+use Rattle.bits.specs.Checks.{must, unless}
 use Rattle.fig.specs.declared.Fig.{Fig}
 use Rattle.fig.specs.declared.Reading.{Reading}
 use Rattle.fig.specs.declared.Reading.the-variants.{Taken, Refused}
@@ -31,10 +32,6 @@ padding w bytes = drop (countIn w bytes * w) (flat 8 bytes)
 abbrev pub lengthFits : ℕ → ℕ → Bool
 lengthFits w n = leb 1 (n * 8 / w) && leb (n * 8 % w) 7
 
--- a check, the refusal where it fails, and what the later checks give; 0 is no refusal
-abbrev pub must : Bool → ℕ → ℕ → ℕ
-must holds number later = cond holds later number
-
 -- the header, by its fields: type 5, the count of the bytes that follow the first, extension 1, D2 = 0
 unfoldable pub fieldRefusal : ℕ → List ℕ → ℕ
 fieldRefusal following f =
@@ -56,18 +53,13 @@ dataRefusal w bytes room =
     (must (leb (countIn w bytes) room) 15
     0))
 
--- what is read, unless there is a refusal
-unfoldable pub unless : ℕ → Reading → Reading
-unless zero r = r
-unless (suc n) r = Refused (suc n)
-
 -- the words of a FIG, by its data bytes
 unfoldable pub readData : Fig → List ℕ → ℕ → Reading
-readData fig bytes room = unless (dataRefusal (wordWidth (fig .d1)) bytes room) (Taken fig (countIn (wordWidth (fig .d1)) bytes))
+readData fig bytes room = unless Refused (dataRefusal (wordWidth (fig .d1)) bytes room) (Taken fig (countIn (wordWidth (fig .d1)) bytes))
 
 -- a FIG read into a buffer with room for so many words
 unfoldable pub readFig : List ℕ → ℕ → Reading
-readFig s room = unless (headRefusal s) (readData (figOf (fields s)) (drop headerLength s) room)
+readFig s room = unless Refused (headRefusal s) (readData (figOf (fields s)) (drop headerLength s) room)
 
 -- the buffer afterwards: the first cells hold the words and later cells stay; a refusal leaves it
 unfoldable pub wordsAfter : Reading → List ℕ → List ℕ → List ℕ

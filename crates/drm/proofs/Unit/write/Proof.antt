@@ -1,14 +1,7 @@
 -- In range and with room the unit is filled in, else refused.
-use Prim.Native.Nat.{ℕ}
-use native.Mathlib.Omega.{arith}
-use mathlib.Core.Path.{_≡_, refl, sym, ap, ap₂, _∙_}
-use mathlib.Core.Bool.{Bool, _&&_}
-use mathlib.Core.List.{List, _++_}
-use lib.ListN.{length, drop}
+use mathlib.Core.Path.{refl, sym, _∙_}
+use lib.ListN.{length}
 use lib.Seq.{length-take-le}
-use borrow.Author.Tests.{le-leb, lt-leb}
-use Rattle.bits.proofs.Choice.{and-right, chosen, passed-over}
-use Rattle.drm.specs.declared.Writing.the-variants.{Written}
 use Rattle.drm.specs.Write.{bytesAfter}
 use Rattle.drm.proofs.Ranges.{few-words}
 use Rattle.drm.proofs.Written.{fitting, written, no-room, unfit, written-bytes}

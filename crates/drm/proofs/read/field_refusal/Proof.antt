@@ -4,7 +4,6 @@ use borrow.Author.Tests.{eq-eqb, ne-eqb, le-leb, lt-leb}
 use Rattle.bits.proofs.Formats.{unpack-bits}
 use Rattle.drm.specs.Format.{startFormat, headerFormat}
 use Rattle.drm.specs.Read.{fieldRefusal}
-use borrow.Author.Needs.{needs}
 use Rattle.drm.proofs.read.field_refusal.Statement.{statement}
 use Rattle.drm.proofs.read.field_refusal.Tie as tie
 

@@ -1,10 +1,9 @@
 -- The fields decide, and then the user words.
 use Prim.Native.Nat.{ℕ}
-use mathlib.Core.Path.{_≡_, sym, ap, _∙_}
+use mathlib.Core.Path.{sym, ap, _∙_}
 use Rattle.bits.specs.Fields.{flat}
-use Rattle.drm.specs.Payload.{wordsAt}
+use Rattle.bits.proofs.Checks.{first, second}
 use Rattle.drm.specs.Read.{wordsRefusal, payloadRefusal}
-use Rattle.drm.proofs.Checks.{first, second}
 use Rattle.drm.proofs.Front.{bits-in, fields-of}
 use borrow.Author.Needs.{needs}
 use Rattle.drm.proofs.read.payload_refusal.Statement.{statement}

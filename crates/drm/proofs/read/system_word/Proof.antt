@@ -1,10 +1,9 @@
 -- The words before m, and 0 after them.
 use Prim.Native.Nat.{_+_, _*_}
 use native.Mathlib.Omega.{arith}
-use mathlib.Core.Path.{_≡_, sym, ap, subst, _∙_}
-use lib.ListN.{length, drop}
+use mathlib.Core.Path.{sym, _∙_}
+use lib.ListN.{drop}
 use Rattle.bits.specs.Fields.{flat}
-use Rattle.bits.proofs.Fields.{length-flat}
 use Rattle.drm.proofs.Front.{field-lt}
 use Rattle.drm.proofs.Body.{word-at, word-past}
 use borrow.Author.Needs.{needs}

@@ -1,11 +1,9 @@
 -- The words lie within the bytes, and there is room for them.
-use Prim.Native.Nat.{ℕ, _+_, _-_, _*_, _/_, _≤_}
+use Prim.Native.Nat.{_-_}
 use native.Mathlib.Omega.{arith}
-use mathlib.Core.Path.{_≡_, refl, sym, ap, ap₂, _∙_}
-use mathlib.Core.List.{List, _++_}
-use lib.ListN.{length, take, drop}
+use mathlib.Core.Path.{refl, sym}
+use lib.ListN.{length}
 use lib.Seq.{length-take-le}
-use Rattle.bits.specs.Fields.{flat, words}
 use Rattle.drm.proofs.Units.{Lies, lies, taken-from, words-from}
 use borrow.Author.Needs.{needs}
 use Rattle.drm.proofs.read.take_payload.Statement.{statement}

@@ -1,5 +1,4 @@
 -- The flag where TMCHI is not 0.
-use native.Mathlib.Omega.{arith}
 use mathlib.Core.Path.{sym, _∙_}
 use Rattle.bits.specs.Fields.{flat}
 use Rattle.bits.proofs.Choice.{chosen, passed-over}

@@ -1,8 +1,7 @@
 -- The fields by their numbers, and each system word by its place.
-use Prim.Native.Nat.{ℕ, _+_, _*_, _%_, _<_, _≤_}
+use Prim.Native.Nat.{_<_}
 use native.Mathlib.Omega.{arith}
-use mathlib.Core.Path.{_≡_, sym, ap, subst, _∙_}
-use lib.ListN.{length}
+use mathlib.Core.Path.{_∙_}
 use lib.Dec.{lit<}
 use Rattle.bits.specs.Fields.{flat}
 use Rattle.drm.proofs.Front.{bits-in, flag-small}

@@ -1,5 +1,4 @@
 -- Each way out is the first check that fails.
-use native.Mathlib.Omega.{arith}
 use mathlib.Core.Path.{sym, _∙_}
 use borrow.Author.Tests.{le-leb, lt-leb}
 use Rattle.bits.proofs.Choice.{chosen, passed-over}

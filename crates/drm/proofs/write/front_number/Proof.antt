@@ -1,10 +1,9 @@
 -- The fields by multiplication.
 use Prim.Native.Nat.{_<_}
 use native.Mathlib.Omega.{arith}
-use mathlib.Core.Path.{sym, ap, _∙_}
+use mathlib.Core.Path.{ap, _∙_}
 use mir.Syntax.{w8}
 use mir.Facts.{toZ-ofZ}
-use borrow.Author.Tests.{ltb-true}
 use Rattle.drm.specs.Offset.{ltoField}
 use Rattle.drm.proofs.Signed.{small-field}
 use Rattle.drm.proofs.Fronts.{bare-number, headed-number}

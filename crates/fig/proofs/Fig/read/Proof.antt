@@ -4,10 +4,13 @@ use native.Mathlib.Omega.{arith}
 use mathlib.Core.Path.{refl, sym, ap, ap₂, _∙_}
 use mathlib.Core.List.{List}
 use lib.ListN.{length, drop, length-drop}
+use Rattle.bits.specs.Checks.{unless}
+use Rattle.bits.proofs.Checks.{none, refused}
 use Rattle.fig.specs.declared.Fig.{Fig}
-use Rattle.fig.specs.Read.{fields, figOf, headRefusal, unless, readData, readFig, wordsAfter}
+use Rattle.fig.specs.declared.Reading.the-variants.{Refused}
+use Rattle.fig.specs.Read.{fields, figOf, headRefusal, readData, readFig, wordsAfter}
 use Rattle.fig.proofs.Header.{length-fits}
-use Rattle.fig.proofs.Answers.{none, refused, data-part}
+use Rattle.fig.proofs.Answers.{data-part}
 use borrow.Author.Needs.{needs}
 use Rattle.fig.proofs.Fig.read.Statement.{statement}
 use Rattle.fig.proofs.Fig.read.Tie as tie
@@ -49,7 +52,7 @@ returns c =
     let head = sym (b .before .before .head-refusal .ensures) ∙ b .before .if1 .taken in (
       call .ensures .0
           ∙ ap₂ (λ (f : Fig) (l : List ℕ). readData f l (length (a .out .now))) (b .fig-of .ensures) (data-part s)
-          ∙ sym (none (headRefusal s) _ head),
+          ∙ sym (none Refused (headRefusal s) _ head),
       call .ensures .1 ∙ ap (λ (l : List ℕ). wordsAfter (call .result) l (a .out .now)) (data-part s),
     )
 
@@ -58,7 +61,7 @@ unfolding readFig wordsAfter
 returns-2 c =
     let s = c .before .before .before .before .args .s .now in
     let n = c .before .head-refusal in
-    (sym (refused (n .result) _ (c .if1 .left)) ∙ ap (λ (m : ℕ). unless m (readData (figOf (fields s)) (drop 2 s) (length (c .before .before .before .before .args .out .now)))) (n .ensures), refl)
+    (sym (refused Refused (n .result) _ (c .if1 .left)) ∙ ap (λ (m : ℕ). unless Refused m (readData (figOf (fields s)) (drop 2 s) (length (c .before .before .before .before .args .out .now)))) (n .ensures), refl)
 
 pub read-spec : {M : Type 1} → statement M
 read-spec =

@@ -2,10 +2,8 @@
 use Prim.Native.Nat.{ℕ, zero, suc}
 use native.Mathlib.Omega.{arith}
 use mathlib.Core.Path.{_≡_, refl, ap}
-use mathlib.Core.Bool.{Bool, true, false}
-use Rattle.drm.specs.declared.Reading.{Reading}
-use Rattle.drm.specs.declared.Reading.the-variants.{Refused}
-use Rattle.drm.specs.Read.{must, firstOf, unless}
+use mathlib.Core.Bool.{Bool, true, false, cond}
+use Rattle.bits.specs.Checks.{must, firstOf, unless}
 
 pub passed : (t : Bool) (n later : ℕ) → must t (suc n) later ≡ 0 → (t ≡ true) × (later ≡ 0)
 passed true n later e = (refl, e)
@@ -26,12 +24,19 @@ unfolding firstOf
 neither zero m e = (refl, e)
 neither (suc n) m e = absurd (omega arith)
 
--- what is read
-pub none : (n : ℕ) (r : Reading) → n ≡ 0 → unless n r ≡ r
-unfolding unless
-none n r e = ap (λ (m : ℕ). unless m r) e
+-- the answer
+module _ {A : Type 0} (answer : ℕ → A) where
+  pub none : (n : ℕ) (r : A) → n ≡ 0 → unless answer n r ≡ r
+  unfolding unless
+  none n r e = ap (λ (m : ℕ). unless answer m r) e
 
-pub refused : (n : ℕ) (r : Reading) → (n ≡ 0 → ⊥) → unless n r ≡ Refused n
-unfolding unless
-refused zero r h = absurd (h refl)
-refused (suc n) r h = refl
+  pub refused : (n : ℕ) (r : A) → (n ≡ 0 → ⊥) → unless answer n r ≡ answer n
+  unfolding unless
+  refused zero r h = absurd (h refl)
+  refused (suc n) r h = refl
+
+  -- with nothing else refused, only the last check is asked
+  pub last-check : (t : Bool) (n : ℕ) (r : A) → unless answer (must t (suc n) 0) r ≡ cond t r (answer (suc n))
+  unfolding unless
+  last-check true n r = refl
+  last-check false n r = refl
