@@ -4,4 +4,7 @@ pub mod Bytes
 pub mod Steps
 pub mod Kept
 pub mod FreeFits
+pub mod Fields
 pub mod WayBack
+pub mod Reports
+pub mod MadeFits

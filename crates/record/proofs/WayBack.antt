@@ -1,11 +1,11 @@
 -- What is stored from a report reads back as that report.
-use Prim.Native.Nat.{ℕ, _+_, _-_, _*_, _/_, _%_, _≤_}
+use Prim.Native.Nat.{ℕ, _+_, _-_, _*_, _≤_}
 use mathlib.Core.Path.{_≡_, refl, sym, ap, ap₂, _∙_}
 use mathlib.Core.Bool.{Bool, true, false}
-use mathlib.Core.List.{List, [], _∷_, _++_}
+use mathlib.Core.List.{List, _++_}
 use native.Mathlib.Omega.{arith}
 use lib.ListN.{length, take, length-append, length-replicate}
-use lib.Seq.{take-at, take-append-add}
+use lib.Seq.{take-append-add}
 use Rattle.bits.specs.Fields.{flat}
 use Rattle.bits.proofs.Fields.{flat-words}
 use Rattle.word.specs.declared.Head.{Head}
@@ -18,21 +18,22 @@ use Rattle.report.specs.declared.Report.{Report}
 use Rattle.report.specs.declared.Form.{Form}
 use Rattle.report.specs.declared.Form.the-variants.{Single, Multi}
 use Rattle.report.specs.Report.{singleReport}
-use Rattle.report.specs.Read.{report, withHead, readBits}
+use Rattle.report.specs.Read.{Message, report, withHead, readBits}
 use Rattle.report.specs.Fits.{fitsBy, reportFits}
 use Rattle.report.specs.Record.{bytesOf, groupsBy, groupsOf}
 use Rattle.report.proofs.Multi.{fit-writable}
 use Rattle.report.proofs.Kept.{report-items}
 use Rattle.report.proofs.WayBack.{multi-is-report, single-is-report}
 use Rattle.record.specs.declared.Service.{Service}
-use Rattle.record.specs.Layout.{groupsIn, headIn, contentIn}
+use Rattle.record.specs.declared.Answer.the-variants.{Read}
+use Rattle.record.specs.Layout.{byteAt, groupsIn, serviceIn, expiryIn}
 use Rattle.record.specs.Made.{recordOf}
-use Rattle.record.specs.Reads.{messageIn}
-use Rattle.record.proofs.Kept.{length-bytes}
-use Rattle.record.proofs.Steps.{single-message, multi-message}
+use Rattle.record.specs.Reads.{messageIn, answered, readingIn}
+use Rattle.record.proofs.Fields.{used-back, groups-back, head-back, expiry-back, content-back, service-back}
+use Rattle.record.proofs.Steps.{single-message, multi-message, used-reading}
 
 -- the bytes of items are their bits and zeros
-bits-back : (its : List Item) → length (packing its) ≤ longest → flat 8 (bytesOf its) ≡ packing its ++ zeros (longest - length (packing its))
+pub bits-back : (its : List Item) → length (packing its) ≤ longest → flat 8 (bytesOf its) ≡ packing its ++ zeros (longest - length (packing its))
 unfolding bytesOf
 bits-back its short =
     let n = length (packing its) in
@@ -51,23 +52,9 @@ padded-back its short =
     ∙ take-append-add (packing its) (zeros (longest - n)) (room n - n)
     ∙ ap (λ (z : List Bool). packing its ++ z) (take-zeros (room n - n) (longest - n) few)
 
-module _ (r : Report) (s : Service) (class expiry : ℕ) (sized : length (r .items .places) ≡ limit) (fit : reportFits r ≡ true) where
-  head-back : headIn (recordOf r s class expiry) ≡ r .head
-  unfolding recordOf
-  head-back =
-      let l : r .head .location % 256 + 0x100 * (r .head .location / 256) ≡ r .head .location = omega arith in
-      let e : r .head .event % 256 + 0x100 * (r .head .event / 256) ≡ r .head .event = omega arith in
-      λ i. record { direction = r .head .direction; extent = r .head .extent; event = e i; location = l i }
-
-  content-back : contentIn (recordOf r s class expiry) ≡ bytesOf (listed (r .items))
-  unfolding recordOf
-  content-back = take-at (bytesOf (listed (r .items))) (class ∷ s .country ∷ []) 14 (length-bytes (listed (r .items)))
-
-  pub groups-back : groupsIn (recordOf r s class expiry) ≡ groupsOf r
-  unfolding recordOf
-  groups-back = refl
-
-  single-groups : r .form ≡ Single → groupsOf r ≡ 1
+-- the groups of a report are the fewest: one for a single-group report, else no more than any number of groups whose content holds the items
+module _ (r : Report) where
+  pub single-groups : r .form ≡ Single → groupsOf r ≡ 1
   unfolding groupsOf groupsBy
   single-groups e = ap (λ (f : Form). groupsBy f (listed (r .items))) e
 
@@ -75,23 +62,36 @@ module _ (r : Report) (s : Service) (class expiry : ℕ) (sized : length (r .ite
   unfolding groupsOf groupsBy
   multi-groups e = ap (λ (f : Form). groupsBy f (listed (r .items))) e
 
+  pub fewest-groups : r .form ≡ Multi → (k : ℕ) → 2 ≤ k → length (packing (listed (r .items))) ≤ groupBits * (k - 1) → groupsOf r ≤ k
+  fewest-groups e k many hold = let n = length (packing (listed (r .items))) in omega (arith, multi-groups e)
+
+module _ (r : Report) (s : Service) (class expiry : ℕ) (sized : length (r .items .places) ≡ limit) (fit : reportFits r ≡ true) where
   pub reads-back : messageIn (recordOf r s class expiry) ≡ report r
   unfolding reportFits fitsBy recordOf
   reads-back = by-form (r .form) refl fit
     where
       by-form : (f : Form) → r .form ≡ f → fitsBy f r ≡ true → messageIn (recordOf r s class expiry) ≡ report r
       by-form Single e h =
-          single-message (recordOf r s class expiry) (single-groups e)
-          ∙ ap (λ (x : Head). report (singleReport (r .duration) (r .diversion) x)) head-back
+          single-message (recordOf r s class expiry) (groups-back r s class expiry ∙ single-groups r e)
+          ∙ ap (λ (x : Head). report (singleReport (r .duration) (r .diversion) x)) (head-back r s class expiry)
           ∙ ap report (single-is-report 0 r sized (unfold fitsBy in h) e)
       by-form Multi e h =
           let its = listed (r .items) in
           let n = length (packing its) in
           let can = fit-writable (r .items) (report-items r fit) in
           let short = packable-short its (writable-packable its can) in
-          let many : groupsIn (recordOf r s class expiry) ≡ 1 → ⊥ = λ z. let g = multi-groups e in let one : groups n ≡ 1 = sym g ∙ z in omega arith in
+          let many : groupsIn (recordOf r s class expiry) ≡ 1 → ⊥ = λ z. let g = multi-groups r e in let one : groups n ≡ 1 = sym g ∙ z in omega arith in
           multi-message (recordOf r s class expiry) many
-          ∙ ap₂ (λ (x : Head) (l : List Bool). readBits x l) head-back
-          (ap₂ (λ (m : ℕ) (l : List ℕ). take (groupBits * (m - 1)) (flat 8 l)) (multi-groups e) content-back ∙ padded-back its short)
+          ∙ ap₂ (λ (x : Head) (l : List Bool). readBits x l) (head-back r s class expiry)
+          (ap₂ (λ (m : ℕ) (l : List ℕ). take (groupBits * (m - 1)) (flat 8 l)) (multi-groups r e) (content-back r s class expiry) ∙ padded-back its short)
           ∙ unfold readBits withHead in ap (withHead (r .head)) (written-is-read its can)
           ∙ ap report (multi-is-report 0 r sized (unfold fitsBy in h) e)
+
+  -- the whole reading: the report with its service and its expiry
+  pub reading-back : readingIn (recordOf r s class expiry) ≡ record { answer = Read; report = r; service = s; expiry = expiry }
+  unfolding answered
+  reading-back =
+      let used : byteAt (recordOf r s class expiry) 0 ≡ 0 → ⊥ = λ z. omega (arith, used-back r s class expiry) in
+      used-reading (recordOf r s class expiry) used
+      ∙ ap (λ (m : Message). answered m (serviceIn (recordOf r s class expiry)) (expiryIn (recordOf r s class expiry))) reads-back
+      ∙ ap₂ (λ (x : Service) (n : ℕ). answered (report r) x n) (service-back r s class expiry) (expiry-back r s class expiry)

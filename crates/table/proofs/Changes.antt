@@ -3,26 +3,24 @@ use Prim.Native.Nat.{ℕ, zero, suc, _+_, _-_, _*_, _/_, _%_, _≤_, _<_}
 use native.Mathlib.Omega.{arith}
 use mathlib.Core.Path.{_≡_, refl, sym, ap, ap₂, subst, _∙_}
 use mathlib.Core.Bool.{Bool, true, false, _&&_}
-use mathlib.Core.List.{List, [], _∷_, _++_, map}
-use lib.ListN.{length, take, drop, set, getD, length-drop}
-use lib.Seq.{take-at, drop-at, length-take-le, getD-at, getD-append-add}
+use mathlib.Core.List.{List, [], _∷_, map}
+use lib.ListN.{length, take, drop, set, length-drop}
+use lib.Seq.{take-at, drop-at, length-take-le}
 use borrow.Author.Tests.{eq-eqb}
 use lib.Dec.{leb, eqb}
 use borrow.Rule.Slice.PartMut.{same-len-mid}
 use Rattle.bits.specs.Bits.{num}
 use Rattle.bits.proofs.Choice.{and-left, and-right}
-use Rattle.content.specs.Stored.{listed}
 use Rattle.report.specs.declared.Report.{Report}
-use Rattle.report.specs.Record.{bytesOf}
 use Rattle.record.specs.declared.Key.{Key}
 use Rattle.record.specs.declared.Service.{Service}
-use Rattle.record.specs.Layout.{recordSize, freeRecord, byteAt, classIn}
+use Rattle.record.specs.Layout.{recordSize, freeRecord}
 use Rattle.record.specs.Made.{recordOf}
 use Rattle.record.specs.WellFormed.{wellFormed}
 use Rattle.record.specs.Rules.{sameService, sameKey, falls, freedIf}
 use Rattle.record.proofs.Steps.{freed, unfreed}
 use Rattle.record.proofs.FreeFits.{free-fits}
-use Rattle.record.proofs.Kept.{length-bytes}
+use Rattle.record.proofs.Fields.{location-back, class-back, country-back}
 use Rattle.table.specs.Records.{chunks, records, joined, allOf, countIf, freeWhere, countWhere, stored}
 use Rattle.table.specs.Lent.{sized, tableFits}
 use Rattle.table.specs.Expire.{expired}
@@ -154,24 +152,11 @@ stored-keeps t r i h inside long e =
 
 -- a made record matches its own service, location, direction and class
 module _ (r : Report) (s : Service) (class expiry : ℕ) where
-  bytes : List ℕ
-  bytes = bytesOf (listed (r .items))
-
-  class-back : classIn (recordOf r s class expiry) ≡ class
-  unfolding recordOf bytes
-  class-back = getD-at bytes class (s .country ∷ []) 0 14 (length-bytes (listed (r .items)))
-
-  country-back : byteAt (recordOf r s class expiry) 31 ≡ s .country
-  unfolding recordOf bytes
-  country-back =
-      ap (λ (n : ℕ). getD (bytes ++ (class ∷ s .country ∷ [])) (n + 1) 0) (sym (length-bytes (listed (r .items)))) ∙ getD-append-add bytes (class ∷ s .country ∷ []) 1 0
-
   pub made-matches : matching (record { service = s; location = r .head .location; direction = r .head .direction; class = class }) (recordOf r s class expiry) ≡ true
   unfolding falls sameKey sameService recordOf
   made-matches =
-      let l : r .head .location % 256 + 0x100 * (r .head .location / 256) ≡ r .head .location = omega arith in
       let both : (a b : Bool) → a ≡ true → b ≡ true → a && b ≡ true = λ a b x y. ap₂ (λ (u v : Bool). u && v) x y in
-      both _ _ (both _ _ (eq-eqb _ _ country-back) (both _ _ (eq-eqb (s .ltn) (s .ltn) refl) (eq-eqb (s .sid) (s .sid) refl))) (both _ _ (eq-eqb _ _ l) (both _ _ (eq-eqb (r .head .direction) (r .head .direction) refl) (eq-eqb _ _ class-back)))
+      both _ _ (both _ _ (eq-eqb _ _ (country-back r s class expiry)) (both _ _ (eq-eqb (s .ltn) (s .ltn) refl) (eq-eqb (s .sid) (s .sid) refl))) (both _ _ (eq-eqb _ _ (location-back r s class expiry)) (both _ _ (eq-eqb (r .head .direction) (r .head .direction) refl) (eq-eqb _ _ (class-back r s class expiry))))
 
 length-chunks : (n : ℕ) (t : List ℕ) → length (chunks n t) ≡ n
 unfolding chunks

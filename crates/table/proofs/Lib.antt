@@ -2,7 +2,6 @@ pub mod Passes
 pub mod Bytes
 pub mod Sweeps
 pub mod Storing
-pub mod Reports
 pub mod Lents
 pub mod Takes
 pub mod Changes

@@ -13,7 +13,7 @@ use Rattle.clock.specs.Time.{expiryOf}
 use Rattle.record.specs.Made.{recordOf}
 use Rattle.table.specs.Lent.{classOf, typeOf}
 use Rattle.table.specs.Take.{lentFit, askedFit, laterRefusal, ordinaryTable, entryOf, keyOf, lifeOf}
-use Rattle.table.proofs.Reports.{report-ranges}
+use Rattle.record.proofs.Reports.{report-ranges}
 use Rattle.table.proofs.Lents.{lent-whole, lent-events, lent-lives, life-short, minute-le, expiry-fits}
 use Rattle.table.proofs.Takes.{asked-report, unlent, unasked, refused-later, ordinary, cancelling, null}
 use borrow.Author.Needs.{needs}
@@ -83,7 +83,7 @@ shared-slice-read-entry c =
     ap (askedFit (v .report) (v .service)) (sym (toZ-ofZ w8 (a .lto) (b .fits .lto))) ∙ sym (c .before .before .before .before .before .asked-fit .ensures) ∙ not-false (c .before .before .before .before .before .asked-fit .result) (c .before .before .before .before .if2 .left) in
     let ranges = report-ranges (v .report) (asked-report (v .report) (v .service) (a .lto) asked) in
     let events = lent-events t k l lent in
-    omega (arith, ranges .0, events)
+    omega (arith, ranges .head-in .event-lt, events)
 
 later-refusal-requires : tie.Need-later-refusal-requires
 later-refusal-requires c κs = search needs
@@ -136,7 +136,7 @@ shared-slice-read-life c =
     ap (askedFit (v .report) (v .service)) (sym (toZ-ofZ w8 (a .lto) (b .fits .lto))) ∙ sym (c .before .before .before .before .before .before .before .before .before .asked-fit .ensures) ∙ not-false (c .before .before .before .before .before .before .before .before .before .asked-fit .result) (c .before .before .before .before .before .before .before .before .if2 .left) in
     let ranges = report-ranges (v .report) (asked-report (v .report) (v .service) (a .lto) asked) in
     let lives = lent-lives t k l lent in
-    omega (arith, ranges .1, lives)
+    omega (arith, ranges .duration-lt, lives)
 
 expiry-requires : tie.Need-expiry-requires
 expiry-requires c κs = search needs
@@ -154,7 +154,7 @@ cast-expiry c =
     ap (askedFit (v .report) (v .service)) (sym (toZ-ofZ w8 (a .lto) (b .fits .lto))) ∙ sym (c .before .before .before .before .before .before .before .before .before .before .asked-fit .ensures) ∙ not-false (c .before .before .before .before .before .before .before .before .before .before .asked-fit .result) (c .before .before .before .before .before .before .before .before .before .if2 .left) in
     let fine : laterRefusal (a .last .0) (v .minute .0) (v .report .head .location) (entryOf k (v .report)) ≡ 0 = sym (c .before .before .before .before .later-refusal .ensures) ∙ c .before .before .before .if3 .left in
     let ranges = report-ranges (v .report) (asked-report (v .report) (v .service) (a .lto) asked) in
-    let place : 8 * typeOf (entryOf k (v .report)) + v .report .duration < length l = omega (arith, ranges .1, lent-lives t k l lent) in
+    let place : 8 * typeOf (entryOf k (v .report)) + v .report .duration < length l = omega (arith, ranges .duration-lt, lent-lives t k l lent) in
     let short = life-short t k l lent (8 * typeOf (entryOf k (v .report)) + v .report .duration) place in
     let minute = minute-le (a .last .0) (v .minute .0) (v .report .head .location) (entryOf k (v .report)) fine in
     omega (arith, c .expiry .ensures, expiry-fits (v .minute .0) (toZ w8 (ofZ w8 (a .lto))) (lifeOf k l (v .report)) minute short)
