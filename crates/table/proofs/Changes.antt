@@ -163,11 +163,11 @@ unfolding chunks
 length-chunks zero t = refl
 length-chunks (suc n) t = ap suc (length-chunks n (drop 32 t))
 
-length-records : (t : List ℕ) → length (records t) ≡ length t / 32
+pub length-records : (t : List ℕ) → length (records t) ≡ length t / 32
 unfolding records
 length-records t = length-chunks (length t / 32) t
 
-length-both : (m : ℕ) (k : Key) (t : List ℕ) → length t % 32 ≡ 0 → length (afterBoth m k t) ≡ length t
+pub length-both : (m : ℕ) (k : Key) (t : List ℕ) → length t % 32 ≡ 0 → length (afterBoth m k t) ≡ length t
 unfolding afterBoth
 length-both m k t whole =
     let same = length-free (expired m) t whole in

@@ -68,6 +68,10 @@ module _ (t c l : List ℕ) (h : lentFit t c l ≡ true) where
   unfolding catalogueFits
   lent-events = eqb-true (length c) 2048 (and-left (eqb (length c) 2048) (allOf entryFits c) (and-left (catalogueFits c) (livesFit l) lent-rest))
 
+  pub lent-entry : (i : ℕ) → i < length c → entryFits (getD c i 0) ≡ true
+  unfolding catalogueFits
+  lent-entry i k = entry-at entryFits c i (and-right (eqb (length c) 2048) (allOf entryFits c) (and-left (catalogueFits c) (livesFit l) lent-rest)) k
+
   lent-lives-fit : eqb (length l) 16 && allOf (λ x. leb x 10080) l ≡ true
   unfolding livesFit
   lent-lives-fit = and-right (catalogueFits c) (livesFit l) lent-rest

@@ -5,4 +5,8 @@ pub mod Storing
 pub mod Lents
 pub mod Takes
 pub mod Changes
+pub mod Gone
+pub mod Accepted
+pub mod Taken
+pub mod Theorems
 pub mod Examples

@@ -47,7 +47,7 @@ asked-report r s lto h = and-left (reportFits r) ((leb (s .country) 15 && (leb (
 
 -- the first refusal of a call
 module _ (t c l : List ℕ) (last : ℕ) (a : Arrival) (lto : ℤ) where
-  refused-take : (n : ℕ) → refusalOf t c l last a lto ≡ n → (n ≡ 0 → ⊥) → (step last (Refused n) ≡ takeStep t c l last a lto) × (t ≡ takeTable t c l last a lto)
+  pub refused-take : (n : ℕ) → refusalOf t c l last a lto ≡ n → (n ≡ 0 → ⊥) → (step last (Refused n) ≡ takeStep t c l last a lto) × (t ≡ takeTable t c l last a lto)
   unfolding takeStep takeTable
   refused-take n e h =
       let off = ne-eqb (refusalOf t c l last a lto) 0 (λ z. h (sym e ∙ z)) in
