@@ -1,32 +1,54 @@
 -- The worked cases of document 01, computed.
-use mathlib.Core.Path.{_≡_, refl}
-use mathlib.Core.Bool.{true, false}
-use mathlib.Core.List.{List, _∷_, _++_}
 use Prim.Native.Nat.{ℕ}
+use mathlib.Core.Path.{_≡_, refl}
+use mathlib.Core.List.{List, [], _∷_, _++_}
+use lib.IntN.{pos}
 use lib.ListN.{replicate}
-use Rattle.record.specs.declared.Rule.the-variants.{Expired}
-use Rattle.record.specs.Rules.{falls}
+use Rattle.bits.specs.Bits.{bits, bit, num, allZero}
+use Rattle.bits.specs.Fields.{flat, fits}
+use Rattle.clock.specs.Time.{offsetFits}
+use Rattle.content.specs.Stored.{filled, wellPlaced, allZeroItems}
+use Rattle.content.specs.Packing.{zeroItem}
+use Rattle.report.specs.Report.{singleReport}
+use Rattle.report.specs.Fits.{singleFits, fitsBy, reportFits}
+use Rattle.record.specs.Layout.{freeRecord}
+use Rattle.record.specs.Rules.{falls, freedIf, sameKey, sameService}
 use Rattle.record.specs.Made.{expiryBytes}
-use Rattle.table.specs.Expire.{minuteUnfit}
-use Rattle.table.specs.Take.{laterRefusal}
+use Rattle.record.specs.WellFormed.{lows, highs, byteFits, allBelow, rangesFit, restFits, wellFormed}
+use Rattle.table.specs.declared.Arrival.{Arrival}
+use Rattle.table.specs.declared.Answer.the-variants.{Freed, Stored, Refused}
+use Rattle.table.specs.Records.{chunks, records, joined, allOf, countIf, firstOf, freeWhere, countWhere, lowestFree}
+use Rattle.table.specs.Lent.{sized, tableFits, entryFits, catalogueFits, livesFit}
+use Rattle.table.specs.Expire.{step, minuteUnfit, expireStep, expireTable}
+use Rattle.table.specs.Take.{lentFit, askedFit, laterRefusal, afterBoth, matchedIn, full, ordinaryStep, stepBy, refusalOf, takeStep}
 
--- a used record that ends at minute 100
+-- a table of one record, which ends at minute 100
 abbrev pub until-100 : List ℕ
-until-100 = (1 ∷ replicate 11 0) ++ (expiryBytes 100 ++ replicate 16 0)
+until-100 = (1 ∷ 1 ∷ replicate 10 0) ++ (expiryBytes 100 ++ (replicate 14 0 ++ (1 ∷ 0 ∷ [])))
 
-pub stays-at-99 : falls (Expired 99) until-100 ≡ false
-unfolding falls
-stays-at-99 = refl
+pub stays-at-99 : (expireStep until-100 0 99 ≡ step 99 (Freed 0 0)) × (expireTable until-100 0 99 ≡ until-100)
+unfolding bit bits flat allZero num lows highs byteFits allBelow rangesFit restFits wellFormed falls freedIf chunks records joined allOf countIf freeWhere countWhere sized tableFits minuteUnfit expireStep expireTable
+stays-at-99 = (refl, refl)
 
-pub goes-at-100 : falls (Expired 100) until-100 ≡ true
-unfolding falls
-goes-at-100 = refl
+pub goes-at-100 : (expireStep until-100 0 100 ≡ step 100 (Freed 1 0)) × (expireTable until-100 0 100 ≡ freeRecord)
+unfolding bit bits flat allZero num lows highs byteFits allBelow rangesFit restFits wellFormed falls freedIf chunks records joined allOf countIf freeWhere countWhere sized tableFits minuteUnfit expireStep expireTable
+goes-at-100 = (refl, refl)
 
--- an ordinary event (kind 1, class 1) at the last location of the service's own table, and at the first foreign one
-pub own-location : laterRefusal 0 0 0xFBFF 65 ≡ 0
-unfolding laterRefusal minuteUnfit
+-- a single-group report at a location, at minute 0
+abbrev pub arrival : ℕ → Arrival
+arrival location = record { report = singleReport 0 0 (record { direction = 0; extent = 0; event = 0; location = location }); service = record { country = 1; ltn = 1; sid = 1 }; minute = record { 0 = 0 } }
+
+-- every event ordinary, of class 1; every life 60 minutes
+abbrev pub catalogue : List ℕ
+catalogue = replicate 2048 65
+
+abbrev pub lives : List ℕ
+lives = replicate 16 60
+
+pub own-location : takeStep freeRecord catalogue lives 0 (arrival 0xFBFF) (pos 0) ≡ step 0 (Stored 0 0 0)
+unfolding bit bits flat allZero num lows highs byteFits allBelow rangesFit restFits wellFormed falls sameKey sameService freedIf chunks records joined allOf countIf firstOf freeWhere countWhere lowestFree sized tableFits entryFits catalogueFits livesFit fits offsetFits filled wellPlaced allZeroItems zeroItem singleFits fitsBy reportFits lentFit askedFit minuteUnfit laterRefusal afterBoth matchedIn full ordinaryStep stepBy refusalOf takeStep
 own-location = refl
 
-pub foreign-location : laterRefusal 0 0 0xFC00 65 ≡ 12
-unfolding laterRefusal minuteUnfit
+pub foreign-location : takeStep freeRecord catalogue lives 0 (arrival 0xFC00) (pos 0) ≡ step 0 (Refused 12)
+unfolding bit bits flat allZero num lows highs byteFits allBelow rangesFit restFits wellFormed falls sameKey sameService freedIf chunks records joined allOf countIf firstOf freeWhere countWhere lowestFree sized tableFits entryFits catalogueFits livesFit fits offsetFits filled wellPlaced allZeroItems zeroItem singleFits fitsBy reportFits lentFit askedFit minuteUnfit laterRefusal afterBoth matchedIn full ordinaryStep stepBy refusalOf takeStep
 foreign-location = refl
