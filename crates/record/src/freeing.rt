@@ -37,8 +37,9 @@ fn same_key(r: &[u8], key: Key) -> bool
     ensures { λ b. ⌜ b ≡ sameKey key (now (r .entry)) ⌝ }
 {
     let service = key.service;
+    let direction = key.direction;
     same_service(r, service)
-        & ((location(r) == key.location) & ((r[8] == key.direction) & (r[30] == key.class)))
+        & ((location(r) == key.location) & ((r[8] == direction) & (r[30] == key.class)))
 }
 
 // Whether the record is used and the rule frees it.

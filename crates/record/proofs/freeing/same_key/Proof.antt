@@ -24,10 +24,10 @@ shared-slice-read-result-2 c = search needs
 returns : tie.Need-returns
 unfolding sameKey
 returns c =
-    let k = c .before .before .before .before .before .before .before .before .before .args .key in
-    let r = c .before .before .before .before .before .before .before .before .before .args .r .now in
+    let k = c .before .before .before .before .before .before .before .before .args .key in
+    let r = c .before .before .before .before .before .before .before .before .args .r .now in
     ap₂ (λ (s : Bool) (n : ℕ). s && (eqb n (k .location) && (eqb (directionIn r) (k .direction) && eqb (classIn r) (k .class))))
-    (c .before .before .before .before .before .before .same-service .ensures) (c .before .before .before .before .before .location .ensures)
+    (c .before .before .before .before .before .same-service .ensures) (c .before .before .before .before .location .ensures)
 
 pub same-key-spec : {M : Type 1} → statement M
 same-key-spec =
