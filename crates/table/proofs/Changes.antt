@@ -34,45 +34,45 @@ pub freed-exactly : (p : List ℕ → Bool) (r : List ℕ) → (p r ≡ true →
 freed-exactly p r = (λ e. sym (freed p r e .1), λ e. sym (unfreed p r e .1))
 
 -- step 1 and then step 2, record by record
-pub both-steps : (m : ℕ) (k : Key) (t : List ℕ) → length t % 32 ≡ 0 → records (afterBoth m k t) ≡ map (freedIf (matching k)) (map (freedIf (expired m)) (records t))
+pub both-steps : (m : ℕ) (k : Key) (t : List ℕ) → length t % recordSize ≡ 0 → records (afterBoth m k t) ≡ map (freedIf (matching k)) (map (freedIf (expired m)) (records t))
 unfolding afterBoth
 both-steps m k t whole =
-    let whole₁ : length (freeWhere (expired m) t) % 32 ≡ 0 = ap (λ (n : ℕ). n % 32) (length-free (expired m) t whole) ∙ whole in
+    let whole₁ : length (freeWhere (expired m) t) % recordSize ≡ 0 = ap (λ (n : ℕ). n % recordSize) (length-free (expired m) t whole) ∙ whole in
     records-freed (matching k) (freeWhere (expired m) t) whole₁ ∙ ap (map (freedIf (matching k))) (records-freed (expired m) t whole)
 
-chunks-plain : (n : ℕ) (t : List ℕ) → n * 32 ≤ length t → chunks n (joined (chunks n t)) ≡ chunks n t
+chunks-plain : (n : ℕ) (t : List ℕ) → n * recordSize ≤ length t → chunks n (joined (chunks n t)) ≡ chunks n t
 unfolding joined chunks
 chunks-plain zero t h = refl
 chunks-plain (suc n) t h =
-    let one : length (take 32 t) ≡ 32 = length-take-le 32 t (omega arith) in
-    let rest : n * 32 ≤ length (drop 32 t) = omega (arith, length-drop 32 t) in
-    let js = joined (chunks n (drop 32 t)) in
-    ap₂ (λ (x y : List ℕ). x ∷ chunks n y) (take-at (take 32 t) js 32 one) (drop-at (take 32 t) js 32 one) ∙ ap (λ (l : List (List ℕ)). take 32 t ∷ l) (chunks-plain n (drop 32 t) rest)
+    let one : length (take recordSize t) ≡ recordSize = length-take-le recordSize t (omega arith) in
+    let rest : n * recordSize ≤ length (drop recordSize t) = omega (arith, length-drop recordSize t) in
+    let js = joined (chunks n (drop recordSize t)) in
+    ap₂ (λ (x y : List ℕ). x ∷ chunks n y) (take-at (take recordSize t) js recordSize one) (drop-at (take recordSize t) js recordSize one) ∙ ap (λ (l : List (List ℕ)). take recordSize t ∷ l) (chunks-plain n (drop recordSize t) rest)
 
-chunks-set : (n i : ℕ) (t r : List ℕ) → n * 32 ≤ length t → length r ≡ 32 → i < n → chunks n (joined (set (chunks n t) i r)) ≡ set (chunks n t) i r
+chunks-set : (n i : ℕ) (t r : List ℕ) → n * recordSize ≤ length t → length r ≡ recordSize → i < n → chunks n (joined (set (chunks n t) i r)) ≡ set (chunks n t) i r
 unfolding joined chunks
 chunks-set zero i t r h long k = absurd (omega arith)
 chunks-set (suc n) zero t r h long k =
-    let rest : n * 32 ≤ length (drop 32 t) = omega (arith, length-drop 32 t) in
-    let js = joined (chunks n (drop 32 t)) in
-    ap₂ (λ (x y : List ℕ). x ∷ chunks n y) (take-at r js 32 long) (drop-at r js 32 long) ∙ ap (λ (l : List (List ℕ)). r ∷ l) (chunks-plain n (drop 32 t) rest)
+    let rest : n * recordSize ≤ length (drop recordSize t) = omega (arith, length-drop recordSize t) in
+    let js = joined (chunks n (drop recordSize t)) in
+    ap₂ (λ (x y : List ℕ). x ∷ chunks n y) (take-at r js recordSize long) (drop-at r js recordSize long) ∙ ap (λ (l : List (List ℕ)). r ∷ l) (chunks-plain n (drop recordSize t) rest)
 chunks-set (suc n) (suc i) t r h long k =
-    let one : length (take 32 t) ≡ 32 = length-take-le 32 t (omega arith) in
-    let rest : n * 32 ≤ length (drop 32 t) = omega (arith, length-drop 32 t) in
-    let js = joined (set (chunks n (drop 32 t)) i r) in
-    ap₂ (λ (x y : List ℕ). x ∷ chunks n y) (take-at (take 32 t) js 32 one) (drop-at (take 32 t) js 32 one) ∙ ap (λ (l : List (List ℕ)). take 32 t ∷ l) (chunks-set n i (drop 32 t) r rest long (omega arith))
+    let one : length (take recordSize t) ≡ recordSize = length-take-le recordSize t (omega arith) in
+    let rest : n * recordSize ≤ length (drop recordSize t) = omega (arith, length-drop recordSize t) in
+    let js = joined (set (chunks n (drop recordSize t)) i r) in
+    ap₂ (λ (x y : List ℕ). x ∷ chunks n y) (take-at (take recordSize t) js recordSize one) (drop-at (take recordSize t) js recordSize one) ∙ ap (λ (l : List (List ℕ)). take recordSize t ∷ l) (chunks-set n i (drop recordSize t) r rest long (omega arith))
 
 -- one record is stored, and no other one changes
-module _ (t r : List ℕ) (i : ℕ) (whole : length t % 32 ≡ 0) (inside : i < length t / 32) (long : length r ≡ 32) where
+module _ (t r : List ℕ) (i : ℕ) (whole : length t % recordSize ≡ 0) (inside : i < length t / recordSize) (long : length r ≡ recordSize) where
   pub length-stored : length (stored t i r) ≡ length t
   length-stored =
-      ap length (sym (put-stored t r i whole inside)) ∙ same-len-mid (i * 32) (i * 32 + 32 - i * 32) t r (long ∙ sym (ap length (part-is t i) ∙ length-nth t i inside))
+      ap length (sym (put-stored t r i whole inside)) ∙ same-len-mid (i * recordSize) (i * recordSize + recordSize - i * recordSize) t r (long ∙ sym (ap length (part-is t i) ∙ length-nth t i inside))
 
   pub one-stored : records (stored t i r) ≡ set (records t) i r
   unfolding records stored
   one-stored =
-      let fits : length t / 32 * 32 ≤ length t = omega arith in
-      ap (λ (n : ℕ). chunks (n / 32) (stored t i r)) length-stored ∙ chunks-set (length t / 32) i t r fits long inside
+      let fits : length t / recordSize * recordSize ≤ length t = omega arith in
+      ap (λ (n : ℕ). chunks (n / recordSize) (stored t i r)) length-stored ∙ chunks-set (length t / recordSize) i t r fits long inside
 
 -- a record that was freed as matching matches no more
 matched-gone : (k : Key) (r : List ℕ) → matching k (freedIf (matching k) r) ≡ false
@@ -91,7 +91,7 @@ count-none p g [] h = refl
 count-none p g (r ∷ rs) h = ap₂ (λ (b : Bool) (n : ℕ). num b + n) (h r) (count-none p g rs h)
 
 -- after both steps no record is left of the service, location, direction and class
-pub none-left : (m : ℕ) (k : Key) (t : List ℕ) → length t % 32 ≡ 0 → countWhere (matching k) (afterBoth m k t) ≡ 0
+pub none-left : (m : ℕ) (k : Key) (t : List ℕ) → length t % recordSize ≡ 0 → countWhere (matching k) (afterBoth m k t) ≡ 0
 unfolding countWhere
 none-left m k t whole = ap (countIf (matching k)) (both-steps m k t whole) ∙ count-none (matching k) (freedIf (matching k)) (map (freedIf (expired m)) (records t)) (matched-gone k)
 
@@ -142,7 +142,7 @@ all-set (x ∷ rs) zero r h e = ap₂ (λ (a b : Bool). a && b) e (and-right (we
 all-set (x ∷ rs) (suc i) r h e = ap₂ (λ (a b : Bool). a && b) (and-left (wellFormed x) (allOf wellFormed rs) h) (all-set rs i r (and-right (wellFormed x) (allOf wellFormed rs) h) e)
 
 -- storing a well-formed record keeps a table well-formed
-pub stored-keeps : (t r : List ℕ) (i : ℕ) → tableFits t ≡ true → i < length t / 32 → length r ≡ 32 → wellFormed r ≡ true → tableFits (stored t i r) ≡ true
+pub stored-keeps : (t r : List ℕ) (i : ℕ) → tableFits t ≡ true → i < length t / recordSize → length r ≡ recordSize → wellFormed r ≡ true → tableFits (stored t i r) ≡ true
 unfolding tableFits
 stored-keeps t r i h inside long e =
     let whole = table-whole t h in
@@ -161,26 +161,26 @@ module _ (r : Report) (s : Service) (class expiry : ℕ) where
 length-chunks : (n : ℕ) (t : List ℕ) → length (chunks n t) ≡ n
 unfolding chunks
 length-chunks zero t = refl
-length-chunks (suc n) t = ap suc (length-chunks n (drop 32 t))
+length-chunks (suc n) t = ap suc (length-chunks n (drop recordSize t))
 
-pub length-records : (t : List ℕ) → length (records t) ≡ length t / 32
+pub length-records : (t : List ℕ) → length (records t) ≡ length t / recordSize
 unfolding records
-length-records t = length-chunks (length t / 32) t
+length-records t = length-chunks (length t / recordSize) t
 
-pub length-both : (m : ℕ) (k : Key) (t : List ℕ) → length t % 32 ≡ 0 → length (afterBoth m k t) ≡ length t
+pub length-both : (m : ℕ) (k : Key) (t : List ℕ) → length t % recordSize ≡ 0 → length (afterBoth m k t) ≡ length t
 unfolding afterBoth
 length-both m k t whole =
     let same = length-free (expired m) t whole in
-    let whole₁ : length (freeWhere (expired m) t) % 32 ≡ 0 = ap (λ (n : ℕ). n % 32) same ∙ whole in
+    let whole₁ : length (freeWhere (expired m) t) % recordSize ≡ 0 = ap (λ (n : ℕ). n % recordSize) same ∙ whole in
     length-free (matching k) (freeWhere (expired m) t) whole₁ ∙ same
 
 -- after a report is stored, its record is the only used one of its service, location, direction and class
-pub only-one : (m : ℕ) (k : Key) (t r : List ℕ) (i : ℕ) → length t % 32 ≡ 0 → i < length t / 32 → length r ≡ 32 → matching k r ≡ true → countWhere (matching k) (stored (afterBoth m k t) i r) ≡ 1
+pub only-one : (m : ℕ) (k : Key) (t r : List ℕ) (i : ℕ) → length t % recordSize ≡ 0 → i < length t / recordSize → length r ≡ recordSize → matching k r ≡ true → countWhere (matching k) (stored (afterBoth m k t) i r) ≡ 1
 unfolding countWhere
 only-one m k t r i whole inside long own =
     let same₂ = length-both m k t whole in
-    let whole₂ : length (afterBoth m k t) % 32 ≡ 0 = ap (λ (n : ℕ). n % 32) same₂ ∙ whole in
-    let inside₂ : i < length (afterBoth m k t) / 32 = subst (λ (n : ℕ). i < n / 32) (sym same₂) inside in
+    let whole₂ : length (afterBoth m k t) % recordSize ≡ 0 = ap (λ (n : ℕ). n % recordSize) same₂ ∙ whole in
+    let inside₂ : i < length (afterBoth m k t) / recordSize = subst (λ (n : ℕ). i < n / recordSize) (sym same₂) inside in
     let count = length-records (afterBoth m k t) in
     let place : i < length (records (afterBoth m k t)) = subst (λ (n : ℕ). i < n) (sym count) inside₂ in
     ap (countIf (matching k)) (one-stored (afterBoth m k t) r i whole₂ inside₂ long) ∙ count-one (matching k) (records (afterBoth m k t)) i r (none-left m k t whole) place own

@@ -12,7 +12,7 @@ use borrow.Author.Tests.{eqb-true, eqb-false, leb-true, ltb-false}
 use Rattle.bits.proofs.Choice.{and-left, and-right, chosen}
 use Rattle.clock.specs.Time.{largest, localOf, expiryOf}
 use Rattle.clock.proofs.Midnight.{ahead, until-midnight, after-life}
-use Rattle.record.specs.Layout.{freeRecord}
+use Rattle.record.specs.Layout.{recordSize, freeRecord}
 use Rattle.record.specs.WellFormed.{wellFormed}
 use Rattle.table.specs.Records.{chunks, records, allOf}
 use Rattle.table.specs.Lent.{sized, tableFits, entryFits, catalogueFits, livesFit}
@@ -20,31 +20,31 @@ use Rattle.table.specs.Expire.{minuteUnfit}
 use Rattle.table.specs.Take.{lentFit, laterRefusal}
 use Rattle.table.proofs.Passes.{nth}
 
-pub table-whole : (t : List ℕ) → tableFits t ≡ true → length t % 32 ≡ 0
+pub table-whole : (t : List ℕ) → tableFits t ≡ true → length t % recordSize ≡ 0
 unfolding tableFits sized
 table-whole t h =
-    let last = eqb (length t % 32) 0 in
-    let s = and-left (leb 32 (length t) && (leb (length t) (1024 * 32) && last)) (allOf wellFormed (records t)) h in
-    eqb-true (length t % 32) 0 (and-right (leb (length t) (1024 * 32)) last (and-right (leb 32 (length t)) (leb (length t) (1024 * 32) && last) s))
+    let last = eqb (length t % recordSize) 0 in
+    let s = and-left (leb recordSize (length t) && (leb (length t) (1024 * recordSize) && last)) (allOf wellFormed (records t)) h in
+    eqb-true (length t % recordSize) 0 (and-right (leb (length t) (1024 * recordSize)) last (and-right (leb recordSize (length t)) (leb (length t) (1024 * recordSize) && last) s))
 
 pub table-records : (t : List ℕ) → tableFits t ≡ true → allOf wellFormed (records t) ≡ true
 unfolding tableFits
 table-records t h = and-right (sized t) (allOf wellFormed (records t)) h
 
-nth-next : (t : List ℕ) (i : ℕ) → nth (drop 32 t) i ≡ nth t (suc i)
-nth-next t i = let e : 32 + i * 32 ≡ suc i * 32 = omega arith in ap (take 32) (drop-drop (i * 32) 32 t ∙ ap (λ (k : ℕ). drop k t) e)
+nth-next : (t : List ℕ) (i : ℕ) → nth (drop recordSize t) i ≡ nth t (suc i)
+nth-next t i = let e : recordSize + i * recordSize ≡ suc i * recordSize = omega arith in ap (take recordSize) (drop-drop (i * recordSize) recordSize t ∙ ap (λ (k : ℕ). drop k t) e)
 
 pub chunk-at : (n i : ℕ) (t : List ℕ) → i < n → getD (chunks n t) i freeRecord ≡ nth t i
 unfolding chunks
 chunk-at zero i t h = absurd (omega arith)
 chunk-at (suc n) zero t h = refl
-chunk-at (suc n) (suc i) t h = chunk-at n i (drop 32 t) (omega arith) ∙ nth-next t i
+chunk-at (suc n) (suc i) t h = chunk-at n i (drop recordSize t) (omega arith) ∙ nth-next t i
 
 pub all-at : (p : List ℕ → Bool) (n i : ℕ) (t : List ℕ) → allOf p (chunks n t) ≡ true → i < n → p (nth t i) ≡ true
 unfolding allOf chunks
 all-at p zero i t a h = absurd (omega arith)
-all-at p (suc n) zero t a h = and-left (p (take 32 t)) (allOf p (chunks n (drop 32 t))) a
-all-at p (suc n) (suc i) t a h = ap p (sym (nth-next t i)) ∙ all-at p n i (drop 32 t) (and-right (p (take 32 t)) (allOf p (chunks n (drop 32 t))) a) (omega arith)
+all-at p (suc n) zero t a h = and-left (p (take recordSize t)) (allOf p (chunks n (drop recordSize t))) a
+all-at p (suc n) (suc i) t a h = ap p (sym (nth-next t i)) ∙ all-at p n i (drop recordSize t) (and-right (p (take recordSize t)) (allOf p (chunks n (drop recordSize t))) a) (omega arith)
 
 entry-at : (p : ℕ → Bool) (l : List ℕ) (i : ℕ) → allOf p l ≡ true → i < length l → p (getD l i 0) ≡ true
 unfolding allOf
@@ -61,7 +61,7 @@ module _ (t c l : List ℕ) (h : lentFit t c l ≡ true) where
   unfolding lentFit
   lent-rest = and-right (tableFits t) (catalogueFits c && livesFit l) h
 
-  pub lent-whole : length t % 32 ≡ 0
+  pub lent-whole : length t % recordSize ≡ 0
   lent-whole = table-whole t lent-table
 
   pub lent-events : length c ≡ 2048
@@ -95,7 +95,7 @@ minute-le last minute location entry h = by-test (minuteUnfit last minute) refl
     by-test true e = absurd (let z : 13 ≡ 0 = sym (chosen _ _ _ e) ∙ h in omega arith)
     by-test false e = ltb-false largest minute (or-right (ltb minute last) (ltb largest minute) (unfold minuteUnfit in e))
 
--- and what is stored ends at a minute of 32 bits
+-- and what is stored ends at a minute of recordSize bits
 pub expiry-fits : (minute : ℕ) (lto : ℤ) (life : ℕ) → minute ≤ largest → life ≤ 10080 → expiryOf minute lto life < 4294967296
 expiry-fits minute lto life m h = by-test (eqb life 0) refl
   where

@@ -8,38 +8,39 @@ use mathlib.Core.List.{List, [], _∷_}
 use lib.ListN.{length, take, drop, getD, length-take, length-drop}
 use lib.Seq.{drop-drop, drop-cons, drop-length, getD-take, getD-drop}
 use Rattle.bits.proofs.Choice.{chosen, passed-over}
+use Rattle.record.specs.Layout.{recordSize}
 use Rattle.table.specs.Records.{chunks, allOf, firstOf}
 
 -- record i
 abbrev pub nth : List ℕ → ℕ → List ℕ
-nth t i = take 32 (drop (i * 32) t)
+nth t i = take recordSize (drop (i * recordSize) t)
 
 -- the part that is lent for it
 module _ (t : List ℕ) (i : ℕ) where
-  pub part-is : take (i * 32 + 32 - i * 32) (drop (i * 32) t) ≡ nth t i
-  part-is = let e : i * 32 + 32 - i * 32 ≡ 32 = omega arith in ap (λ (k : ℕ). take k (drop (i * 32) t)) e
+  pub part-is : take (i * recordSize + recordSize - i * recordSize) (drop (i * recordSize) t) ≡ nth t i
+  part-is = let e : i * recordSize + recordSize - i * recordSize ≡ recordSize = omega arith in ap (λ (k : ℕ). take k (drop (i * recordSize) t)) e
 
-  pub length-nth : i < length t / 32 → length (nth t i) ≡ 32
+  pub length-nth : i < length t / recordSize → length (nth t i) ≡ recordSize
   length-nth h = simp (length-take, length-drop) (omega arith)
 
-  pub length-part : i < length t / 32 → length (take (i * 32 + 32 - i * 32) (drop (i * 32) t)) ≡ 32
+  pub length-part : i < length t / recordSize → length (take (i * recordSize + recordSize - i * recordSize) (drop (i * recordSize) t)) ≡ recordSize
   length-part h = ap length part-is ∙ length-nth h
 
-  pub byte-is : (j : ℕ) → j < 32 → getD (nth t i) j 0 ≡ getD t (i * 32 + j) 0
-  byte-is j h = getD-take 32 (drop (i * 32) t) j 0 h ∙ getD-drop (i * 32) t j 0
+  pub byte-is : (j : ℕ) → j < recordSize → getD (nth t i) j 0 ≡ getD t (i * recordSize + j) 0
+  byte-is j h = getD-take recordSize (drop (i * recordSize) t) j 0 h ∙ getD-drop (i * recordSize) t j 0
 
-  pub first-byte : getD (nth t i) 0 0 ≡ getD t (i * 32) 0
-  first-byte = let z : i * 32 + 0 ≡ i * 32 = omega arith in byte-is 0 (omega arith) ∙ ap (λ (k : ℕ). getD t k 0) z
+  pub first-byte : getD (nth t i) 0 0 ≡ getD t (i * recordSize) 0
+  first-byte = let z : i * recordSize + 0 ≡ i * recordSize = omega arith in byte-is 0 (omega arith) ∙ ap (λ (k : ℕ). getD t k 0) z
 
 -- record i and those after it
-pub rest-of : (n i : ℕ) (t : List ℕ) → i < n → chunks (n - i) (drop (i * 32) t) ≡ nth t i ∷ chunks (n - (i + 1)) (drop ((i + 1) * 32) t)
+pub rest-of : (n i : ℕ) (t : List ℕ) → i < n → chunks (n - i) (drop (i * recordSize) t) ≡ nth t i ∷ chunks (n - (i + 1)) (drop ((i + 1) * recordSize) t)
 unfolding chunks
 rest-of n i t h =
     let m : n - i ≡ suc (n - (i + 1)) = omega arith in
-    let k : i * 32 + 32 ≡ (i + 1) * 32 = omega arith in
-    ap (λ (x : ℕ). chunks x (drop (i * 32) t)) m ∙ ap (λ (l : List ℕ). nth t i ∷ chunks (n - (i + 1)) l) (drop-drop 32 (i * 32) t ∙ ap (λ (x : ℕ). drop x t) k)
+    let k : i * recordSize + recordSize ≡ (i + 1) * recordSize = omega arith in
+    ap (λ (x : ℕ). chunks x (drop (i * recordSize) t)) m ∙ ap (λ (l : List ℕ). nth t i ∷ chunks (n - (i + 1)) l) (drop-drop recordSize (i * recordSize) t ∙ ap (λ (x : ℕ). drop x t) k)
 
-pub rest-whole : (n : ℕ) (t : List ℕ) → chunks (n - 0) (drop (0 * 32) t) ≡ chunks n t
+pub rest-whole : (n : ℕ) (t : List ℕ) → chunks (n - 0) (drop (0 * recordSize) t) ≡ chunks n t
 rest-whole n t = let e : n - 0 ≡ n = omega arith in ap (λ (m : ℕ). chunks m t) e
 
 pub rest-none : (n i : ℕ) (t : List ℕ) → i ≡ n → chunks (n - i) t ≡ []
@@ -48,26 +49,26 @@ rest-none n i t e = let z : n - i ≡ 0 = omega arith in ap (λ (m : ℕ). chunk
 
 -- a test of every record
 module _ (p : List ℕ → Bool) (n i : ℕ) (t : List ℕ) where
-  pub all-next : i < n → allOf p (chunks (n - i) (drop (i * 32) t)) ≡ p (nth t i) && allOf p (chunks (n - (i + 1)) (drop ((i + 1) * 32) t))
+  pub all-next : i < n → allOf p (chunks (n - i) (drop (i * recordSize) t)) ≡ p (nth t i) && allOf p (chunks (n - (i + 1)) (drop ((i + 1) * recordSize) t))
   unfolding allOf
   all-next h = ap (allOf p) (rest-of n i t h)
 
-  pub all-end : i ≡ n → allOf p (chunks (n - i) (drop (i * 32) t)) ≡ true
+  pub all-end : i ≡ n → allOf p (chunks (n - i) (drop (i * recordSize) t)) ≡ true
   unfolding allOf
-  all-end e = ap (allOf p) (rest-none n i (drop (i * 32) t) e)
+  all-end e = ap (allOf p) (rest-none n i (drop (i * recordSize) t) e)
 
   -- the first record that a test holds of
-  pub first-here : i < n → p (nth t i) ≡ true → firstOf p (chunks (n - i) (drop (i * 32) t)) ≡ 0
+  pub first-here : i < n → p (nth t i) ≡ true → firstOf p (chunks (n - i) (drop (i * recordSize) t)) ≡ 0
   unfolding firstOf
   first-here h e = ap (firstOf p) (rest-of n i t h) ∙ chosen _ _ _ e
 
-  pub first-later : i < n → p (nth t i) ≡ false → firstOf p (chunks (n - i) (drop (i * 32) t)) ≡ suc (firstOf p (chunks (n - (i + 1)) (drop ((i + 1) * 32) t)))
+  pub first-later : i < n → p (nth t i) ≡ false → firstOf p (chunks (n - i) (drop (i * recordSize) t)) ≡ suc (firstOf p (chunks (n - (i + 1)) (drop ((i + 1) * recordSize) t)))
   unfolding firstOf
   first-later h e = ap (firstOf p) (rest-of n i t h) ∙ passed-over _ _ _ e
 
-  pub first-end : i ≡ n → firstOf p (chunks (n - i) (drop (i * 32) t)) ≡ 0
+  pub first-end : i ≡ n → firstOf p (chunks (n - i) (drop (i * recordSize) t)) ≡ 0
   unfolding firstOf
-  first-end e = ap (firstOf p) (rest-none n i (drop (i * 32) t) e)
+  first-end e = ap (firstOf p) (rest-none n i (drop (i * recordSize) t) e)
 
 -- a test of every entry
 module _ (p : ℕ → Bool) (l : List ℕ) (i : ℕ) where

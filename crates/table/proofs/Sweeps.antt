@@ -9,6 +9,7 @@ use lib.ListN.{length, take, drop, length-append, length-drop, drop-of-length-le
 use lib.Seq.{drop-drop, drop-at, length-take-le}
 use borrow.Rule.Slice.PartMut.{putMid}
 use Rattle.bits.specs.Bits.{num}
+use Rattle.record.specs.Layout.{recordSize}
 use Rattle.record.specs.Rules.{freedIf}
 use Rattle.record.proofs.Filling.{next-part}
 use Rattle.record.proofs.Steps.{freed, unfreed}
@@ -19,8 +20,8 @@ pub chunks-snoc : (i : ℕ) (t : List ℕ) → chunks (suc i) t ≡ chunks i t +
 unfolding chunks
 chunks-snoc zero t = refl
 chunks-snoc (suc i) t =
-    let e : 32 + i * 32 ≡ suc i * 32 = omega arith in
-    ap (λ (l : List (List ℕ)). take 32 t ∷ l) (chunks-snoc i (drop 32 t) ∙ ap (λ (l : List ℕ). chunks i (drop 32 t) ++ (take 32 l ∷ [])) (drop-drop (i * 32) 32 t ∙ ap (λ (k : ℕ). drop k t) e))
+    let e : recordSize + i * recordSize ≡ suc i * recordSize = omega arith in
+    ap (λ (l : List (List ℕ)). take recordSize t ∷ l) (chunks-snoc i (drop recordSize t) ∙ ap (λ (l : List ℕ). chunks i (drop recordSize t) ++ (take recordSize l ∷ [])) (drop-drop (i * recordSize) recordSize t ∙ ap (λ (k : ℕ). drop k t) e))
 
 pub joined-snoc : (f : List ℕ → List ℕ) (rs : List (List ℕ)) (r : List ℕ) → joined (map f (rs ++ (r ∷ []))) ≡ joined (map f rs) ++ f r
 unfolding joined
@@ -40,77 +41,77 @@ num-le false = omega arith
 pub count-le : (p : List ℕ → Bool) (i : ℕ) (t : List ℕ) → countIf p (chunks i t) ≤ i
 unfolding countIf chunks
 count-le p zero t = omega arith
-count-le p (suc i) t = omega (arith, num-le (p (take 32 t)), count-le p i (drop 32 t))
+count-le p (suc i) t = omega (arith, num-le (p (take recordSize t)), count-le p i (drop recordSize t))
 
 -- freeing keeps a record's length
-pub length-freed : (p : List ℕ → Bool) (r : List ℕ) → length r ≡ 32 → length (freedIf p r) ≡ 32
+pub length-freed : (p : List ℕ → Bool) (r : List ℕ) → length r ≡ recordSize → length (freedIf p r) ≡ recordSize
 length-freed p r h = by-test (p r) refl
   where
-    by-test : (b : Bool) → p r ≡ b → length (freedIf p r) ≡ 32
+    by-test : (b : Bool) → p r ≡ b → length (freedIf p r) ≡ recordSize
     by-test true e = sym (ap length (freed p r e .1))
     by-test false e = sym (ap length (unfreed p r e .1)) ∙ h
 
-pub length-joined : (p : List ℕ → Bool) (i : ℕ) (t : List ℕ) → i * 32 ≤ length t → length (joined (map (freedIf p) (chunks i t))) ≡ i * 32
+pub length-joined : (p : List ℕ → Bool) (i : ℕ) (t : List ℕ) → i * recordSize ≤ length t → length (joined (map (freedIf p) (chunks i t))) ≡ i * recordSize
 unfolding joined chunks
 length-joined p zero t h = refl
 length-joined p (suc i) t h =
-    let one : length (take 32 t) ≡ 32 = length-take-le 32 t (omega arith) in
-    let fits : i * 32 ≤ length (drop 32 t) = omega (arith, length-drop 32 t) in
-    let rest = length-joined p i (drop 32 t) fits in
-    let head = length-freed p (take 32 t) one in
-    length-append (freedIf p (take 32 t)) (joined (map (freedIf p) (chunks i (drop 32 t)))) ∙ omega (arith, rest, head)
+    let one : length (take recordSize t) ≡ recordSize = length-take-le recordSize t (omega arith) in
+    let fits : i * recordSize ≤ length (drop recordSize t) = omega (arith, length-drop recordSize t) in
+    let rest = length-joined p i (drop recordSize t) fits in
+    let head = length-freed p (take recordSize t) one in
+    length-append (freedIf p (take recordSize t)) (joined (map (freedIf p) (chunks i (drop recordSize t)))) ∙ omega (arith, rest, head)
 
 -- after i records
 abbrev pub swept : (List ℕ → Bool) → ℕ → List ℕ → List ℕ
-swept p i t = joined (map (freedIf p) (chunks i t)) ++ drop (i * 32) t
+swept p i t = joined (map (freedIf p) (chunks i t)) ++ drop (i * recordSize) t
 
 pub sweep-none : (p : List ℕ → Bool) (t : List ℕ) → t ≡ swept p 0 t
 unfolding joined chunks
 sweep-none p t = refl
 
-module _ (p : List ℕ → Bool) (i : ℕ) (t₀ t : List ℕ) (inside : i < length t₀ / 32) (e : t ≡ swept p i t₀) where
+module _ (p : List ℕ → Bool) (i : ℕ) (t₀ t : List ℕ) (inside : i < length t₀ / recordSize) (e : t ≡ swept p i t₀) where
   before : List ℕ
   before = joined (map (freedIf p) (chunks i t₀))
 
-  length-before : length before ≡ i * 32
+  length-before : length before ≡ i * recordSize
   unfolding before
   length-before = length-joined p i t₀ (omega arith)
 
-  rest : drop (i * 32) t ≡ drop (i * 32) t₀
+  rest : drop (i * recordSize) t ≡ drop (i * recordSize) t₀
   unfolding before
-  rest = ap (drop (i * 32)) e ∙ drop-at before (drop (i * 32) t₀) (i * 32) length-before
+  rest = ap (drop (i * recordSize)) e ∙ drop-at before (drop (i * recordSize) t₀) (i * recordSize) length-before
 
   -- the record that is looked at is as it was
-  pub same-record : take (i * 32 + 32 - i * 32) (drop (i * 32) t) ≡ nth t₀ i
-  same-record = ap (take (i * 32 + 32 - i * 32)) rest ∙ part-is t₀ i
+  pub same-record : take (i * recordSize + recordSize - i * recordSize) (drop (i * recordSize) t) ≡ nth t₀ i
+  same-record = ap (take (i * recordSize + recordSize - i * recordSize)) rest ∙ part-is t₀ i
 
-  pub sweep-next : (ys : List ℕ) → ys ≡ freedIf p (take (i * 32 + 32 - i * 32) (drop (i * 32) t)) → putMid (i * 32) (i * 32 + 32 - i * 32) t ys ≡ swept p (i + 1) t₀
+  pub sweep-next : (ys : List ℕ) → ys ≡ freedIf p (take (i * recordSize + recordSize - i * recordSize) (drop (i * recordSize) t)) → putMid (i * recordSize) (i * recordSize + recordSize - i * recordSize) t ys ≡ swept p (i + 1) t₀
   unfolding before
   sweep-next ys h =
-      let k : i * 32 + 32 - i * 32 ≡ 32 = omega arith in
-      let a : i * 32 + 32 ≡ (i + 1) * 32 = omega arith in
-      ap₂ (λ (n : ℕ) (l : List ℕ). putMid (i * 32) n l ys) k e
-      ∙ next-part (i * 32) 32 before (drop (i * 32) t₀) ys length-before
-      ∙ ap₂ (λ (x y : List ℕ). (before ++ x) ++ y) (h ∙ ap (freedIf p) same-record) (drop-drop 32 (i * 32) t₀ ∙ ap (λ (n : ℕ). drop n t₀) a)
-      ∙ ap (λ (l : List ℕ). l ++ drop ((i + 1) * 32) t₀) (sym (ap (λ (rs : List (List ℕ)). joined (map (freedIf p) rs)) (ap (λ (n : ℕ). chunks n t₀) (add-one i) ∙ chunks-snoc i t₀) ∙ joined-snoc (freedIf p) (chunks i t₀) (nth t₀ i)))
+      let k : i * recordSize + recordSize - i * recordSize ≡ recordSize = omega arith in
+      let a : i * recordSize + recordSize ≡ (i + 1) * recordSize = omega arith in
+      ap₂ (λ (n : ℕ) (l : List ℕ). putMid (i * recordSize) n l ys) k e
+      ∙ next-part (i * recordSize) recordSize before (drop (i * recordSize) t₀) ys length-before
+      ∙ ap₂ (λ (x y : List ℕ). (before ++ x) ++ y) (h ∙ ap (freedIf p) same-record) (drop-drop recordSize (i * recordSize) t₀ ∙ ap (λ (n : ℕ). drop n t₀) a)
+      ∙ ap (λ (l : List ℕ). l ++ drop ((i + 1) * recordSize) t₀) (sym (ap (λ (rs : List (List ℕ)). joined (map (freedIf p) rs)) (ap (λ (n : ℕ). chunks n t₀) (add-one i) ∙ chunks-snoc i t₀) ∙ joined-snoc (freedIf p) (chunks i t₀) (nth t₀ i)))
 
-  pub count-next : (n : ℕ) → n ≡ num (p (take (i * 32 + 32 - i * 32) (drop (i * 32) t))) → countIf p (chunks i t₀) + n ≡ countIf p (chunks (i + 1) t₀)
+  pub count-next : (n : ℕ) → n ≡ num (p (take (i * recordSize + recordSize - i * recordSize) (drop (i * recordSize) t))) → countIf p (chunks i t₀) + n ≡ countIf p (chunks (i + 1) t₀)
   count-next n h =
       ap (λ (m : ℕ). countIf p (chunks i t₀) + m) (h ∙ ap (λ (r : List ℕ). num (p r)) same-record)
       ∙ sym (ap (λ (m : ℕ). countIf p (chunks m t₀)) (add-one i) ∙ ap (countIf p) (chunks-snoc i t₀) ∙ count-snoc p (chunks i t₀) (nth t₀ i))
 
 -- after all of them
-pub swept-all : (p : List ℕ → Bool) (i : ℕ) (t : List ℕ) → length t % 32 ≡ 0 → i ≡ length t / 32 → swept p i t ≡ freeWhere p t
+pub swept-all : (p : List ℕ → Bool) (i : ℕ) (t : List ℕ) → length t % recordSize ≡ 0 → i ≡ length t / recordSize → swept p i t ≡ freeWhere p t
 unfolding freeWhere records
 swept-all p i t whole e =
-    let all : length t ≤ i * 32 = omega arith in
+    let all : length t ≤ i * recordSize = omega arith in
     ap (λ (l : List ℕ). joined (map (freedIf p) (chunks i t)) ++ l) (drop-of-length-le t all) ∙ append-nil (joined (map (freedIf p) (chunks i t))) ∙ ap (λ (n : ℕ). joined (map (freedIf p) (chunks n t))) e
 
-pub counted-all : (p : List ℕ → Bool) (i : ℕ) (t : List ℕ) → i ≡ length t / 32 → countIf p (chunks i t) ≡ countWhere p t
+pub counted-all : (p : List ℕ → Bool) (i : ℕ) (t : List ℕ) → i ≡ length t / recordSize → countIf p (chunks i t) ≡ countWhere p t
 unfolding countWhere records
 counted-all p i t e = ap (λ (n : ℕ). countIf p (chunks n t)) e
 
-pub length-swept : (p : List ℕ → Bool) (i : ℕ) (t : List ℕ) → i ≤ length t / 32 → length (swept p i t) ≡ length t
+pub length-swept : (p : List ℕ → Bool) (i : ℕ) (t : List ℕ) → i ≤ length t / recordSize → length (swept p i t) ≡ length t
 length-swept p i t h =
-    let fits : i * 32 ≤ length t = omega arith in
-    length-append (joined (map (freedIf p) (chunks i t))) (drop (i * 32) t) ∙ omega (arith, length-joined p i t fits, length-drop (i * 32) t)
+    let fits : i * recordSize ≤ length t = omega arith in
+    length-append (joined (map (freedIf p) (chunks i t))) (drop (i * recordSize) t) ∙ omega (arith, length-joined p i t fits, length-drop (i * recordSize) t)

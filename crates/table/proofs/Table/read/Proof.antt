@@ -5,6 +5,7 @@ use mathlib.Core.Bool.{true, false}
 use lib.ListN.{length}
 use borrow.Author.Tests.{not-true, not-false, le-leb, lt-leb}
 use Rattle.bits.proofs.Choice.{chosen, passed-over}
+use Rattle.record.specs.Layout.{recordSize}
 use Rattle.record.specs.WellFormed.{wellFormed}
 use Rattle.record.specs.Reads.{readingIn}
 use Rattle.table.specs.Records.{records}
@@ -39,7 +40,7 @@ returns-2 c =
     let a = c .before .before .before .before .before .args in
     let t = a .t .now in
     let on : tableFits t ≡ true = sym (c .before .before .before .table-fits .ensures) ∙ not-false (c .before .before .before .table-fits .result) (c .before .before .if1 .left) in
-    c .nothing2 .ensures ∙ sym (chosen _ _ _ on ∙ chosen _ _ _ (le-leb (length t / 32) (a .i) (c .before .if2 .taken)))
+    c .nothing2 .ensures ∙ sym (chosen _ _ _ on ∙ chosen _ _ _ (le-leb (length t / recordSize) (a .i) (c .before .if2 .taken)))
 
 mul-a : tie.Need-mul-a
 mul-a c = search needs
@@ -62,8 +63,8 @@ read-requires c κs =
     let a = c .before .before .before .before .before .args in
     let t = a .t .now in
     let on : tableFits t ≡ true = sym (c .before .before .before .table-fits .ensures) ∙ not-false (c .before .before .before .table-fits .result) (c .before .before .if1 .left) in
-    let h : a .i < length t / 32 = c .before .if2 .left in
-    (length-part t (a .i) h, ap wellFormed (part-is t (a .i)) ∙ all-at wellFormed (length t / 32) (a .i) t (table-records t on) h)
+    let h : a .i < length t / recordSize = c .before .if2 .left in
+    (length-part t (a .i) h, ap wellFormed (part-is t (a .i)) ∙ all-at wellFormed (length t / recordSize) (a .i) t (table-records t on) h)
 
 returns-3 : tie.Need-returns-3
 unfolding recordAt records
@@ -71,10 +72,10 @@ returns-3 c =
     let a = c .before .before .before .before .before .before .args in
     let t = a .t .now in
     let on : tableFits t ≡ true = sym (c .before .before .before .before .table-fits .ensures) ∙ not-false (c .before .before .before .before .table-fits .result) (c .before .before .before .if1 .left) in
-    let h : a .i < length t / 32 = c .before .before .if2 .left in
+    let h : a .i < length t / recordSize = c .before .before .if2 .left in
     c .read .ensures
-    ∙ ap readingIn (part-is t (a .i) ∙ sym (chunk-at (length t / 32) (a .i) t h))
-    ∙ sym (chosen _ _ _ on ∙ passed-over _ _ _ (lt-leb (length t / 32) (a .i) h))
+    ∙ ap readingIn (part-is t (a .i) ∙ sym (chunk-at (length t / recordSize) (a .i) t h))
+    ∙ sym (chosen _ _ _ on ∙ passed-over _ _ _ (lt-leb (length t / recordSize) (a .i) h))
 
 pub read-spec : {M : Type 1} → statement M
 read-spec =

@@ -4,6 +4,7 @@ use mathlib.Core.Path.{_≡_, sym, ap, _∙_}
 use native.Mathlib.Omega.{arith}
 use mathlib.Core.Bool.{true, false}
 use lib.ListN.{length, drop}
+use Rattle.record.specs.Layout.{recordSize}
 use Rattle.table.specs.Records.{chunks, records, firstOf}
 use Rattle.table.specs.Take.{vacant}
 use Rattle.table.proofs.Passes.{nth, part-is, length-part, rest-whole, first-here, first-later, first-end}
@@ -11,7 +12,7 @@ use Rattle.table.proofs.search.find_place.Statement.{statement}
 use Rattle.table.proofs.search.find_place.Tie as tie
 
 abbrev Inv-loop : tie.InvT-loop
-Inv-loop t minute key n i₀ i = (i ≤ n) × (firstOf (vacant minute key) (chunks n t) ≡ i + firstOf (vacant minute key) (chunks (n - i) (drop (i * 32) t)))
+Inv-loop t minute key n i₀ i = (i ≤ n) × (firstOf (vacant minute key) (chunks n t) ≡ i + firstOf (vacant minute key) (chunks (n - i) (drop (i * recordSize) t)))
 
 abbrev μ-loop : tie.MeasureT-loop
 μ-loop t minute key n i₀ i = n - i
@@ -20,7 +21,7 @@ loop-holds : tie.Need-loop-holds Inv-loop μ-loop
 loop-holds c =
     let a = c .before .args in
     let t = a .t .now in
-    let n = length t / 32 in
+    let n = length t / recordSize in
     let whole = ap (firstOf (vacant (a .minute) (a .key))) (rest-whole n t) in
     (omega arith, omega (arith, whole))
 
@@ -54,7 +55,7 @@ loop-again c =
     let t = a .t .now in
     let l = c .before .before .before .before .loop in
     let p = vacant (a .minute) (a .key) in
-    let n = length t / 32 in
+    let n = length t / recordSize in
     let h : l .i < n = omega arith in
     let no : p (nth t (l .i)) ≡ false = ap p (sym (part-is t (l .i))) ∙ sym (c .before .is-vacant .ensures) ∙ c .if2 .left in
     (omega arith, omega (arith, l .inv .1, first-later p n (l .i) t h no))
@@ -66,7 +67,7 @@ returns c =
     let t = a .t .now in
     let l = c .before .loop in
     let p = vacant (a .minute) (a .key) in
-    let n = length t / 32 in
+    let n = length t / recordSize in
     let e : l .i ≡ n = omega arith in
     omega (arith, l .inv .1, first-end p n (l .i) t e)
 
@@ -77,7 +78,7 @@ returns-2 c =
     let t = a .t .now in
     let l = c .before .before .before .before .loop in
     let p = vacant (a .minute) (a .key) in
-    let n = length t / 32 in
+    let n = length t / recordSize in
     let h : l .i < n = omega arith in
     let yes : p (nth t (l .i)) ≡ true = ap p (sym (part-is t (l .i))) ∙ sym (c .before .is-vacant .ensures) ∙ c .if2 .taken in
     omega (arith, l .inv .1, first-here p n (l .i) t h yes)

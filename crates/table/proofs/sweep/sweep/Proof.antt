@@ -3,6 +3,7 @@ use Prim.Native.Nat.{ℕ, _+_, _-_, _*_, _/_, _≤_, _<_}
 use mathlib.Core.Path.{_≡_, refl, ap, _∙_}
 use native.Mathlib.Omega.{arith}
 use lib.ListN.{length, take, drop}
+use Rattle.record.specs.Layout.{recordSize}
 use Rattle.record.specs.Rules.{falls}
 use Rattle.table.specs.Records.{chunks, countIf}
 use Rattle.table.proofs.Passes.{length-nth}
@@ -46,7 +47,7 @@ free-if-requires c κs =
     let t₀ = a .t .now in
     let l = c .before .before .loop in
     let p = falls (a .rule) in
-    let h : l .i < length t₀ / 32 = omega arith in
+    let h : l .i < length t₀ / recordSize = omega arith in
     ap length (same-record p (l .i) t₀ (l .t) h (l .inv .1)) ∙ length-nth t₀ (l .i) h
 
 add-freed : tie.Need-add-freed Inv-loop μ-loop
@@ -55,7 +56,7 @@ add-freed c =
     let t₀ = a .t .now in
     let l = c .before .before .before .before .before .loop in
     let p = falls (a .rule) in
-    omega (arith, l .inv .2, count-le p (l .i) t₀, c .before .before .free-if .ensures .0, num-le (p (take (l .i * 32 + 32 - l .i * 32) (drop (l .i * 32) (l .t)))))
+    omega (arith, l .inv .2, count-le p (l .i) t₀, c .before .before .free-if .ensures .0, num-le (p (take (l .i * recordSize + recordSize - l .i * recordSize) (drop (l .i * recordSize) (l .t)))))
 
 add-i : tie.Need-add-i Inv-loop μ-loop
 add-i c = omega arith
@@ -70,7 +71,7 @@ loop-again c =
     let l = c .before .before .before .before .before .loop in
     let p = falls (a .rule) in
     let f = c .before .before .free-if in
-    let h : l .i < length t₀ / 32 = omega arith in (
+    let h : l .i < length t₀ / recordSize = omega arith in (
       omega arith,
       sweep-next p (l .i) t₀ (l .t) h (l .inv .1) (f .last .0) (f .ensures .1),
       ap (λ (n : ℕ). n + f .result) (l .inv .2) ∙ count-next p (l .i) t₀ (l .t) h (l .inv .1) (f .result) (f .ensures .0),
@@ -90,7 +91,7 @@ returns c =
     let t₀ = a .t .now in
     let l = c .before .loop in
     let p = falls (a .rule) in
-    let e : l .i ≡ length t₀ / 32 = omega arith in
+    let e : l .i ≡ length t₀ / recordSize = omega arith in
     (l .inv .2 ∙ counted-all p (l .i) t₀ e, l .inv .1 ∙ swept-all p (l .i) t₀ (c .before .before .before .pre) e)
 
 pub sweep-spec : {M : Type 1} → statement M

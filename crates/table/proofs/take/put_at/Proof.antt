@@ -3,6 +3,7 @@ use Prim.Native.Nat.{ℕ, _+_, _-_, _*_}
 use mathlib.Core.Path.{ap, _∙_}
 use mathlib.Core.List.{List}
 use borrow.Rule.Slice.PartMut.{putMid}
+use Rattle.record.specs.Layout.{recordSize}
 use Rattle.record.specs.Made.{recordOf}
 use Rattle.table.proofs.Storing.{put-stored}
 use borrow.Author.Needs.{needs}
@@ -35,7 +36,7 @@ returns c =
     let b = c .before .before .before .before .before in
     let a = b .args in
     let i = a .place in
-    ap (λ (r : List ℕ). putMid (i * 32) (i * 32 + 32 - i * 32) (a .t .now) r) (c .before .before .put .ensures)
+    ap (λ (r : List ℕ). putMid (i * recordSize) (i * recordSize + recordSize - i * recordSize) (a .t .now) r) (c .before .before .put .ensures)
     ∙ put-stored (a .t .now) (recordOf (a .report) (a .service) (a .class) (a .expiry)) i (b .pre .0) (b .pre .1)
 
 pub put-at-spec : {M : Type 1} → statement M

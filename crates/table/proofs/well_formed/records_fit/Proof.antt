@@ -5,6 +5,7 @@ use mathlib.Core.Path.{_≡_, refl, sym, ap, _∙_}
 use native.Mathlib.Omega.{arith}
 use mathlib.Core.Bool.{Bool, true, false, _&&_}
 use lib.ListN.{length, drop, getD}
+use Rattle.record.specs.Layout.{recordSize}
 use Rattle.record.specs.WellFormed.{byteFits, allBelow, rangesFit, restFits, wellFormed}
 use Rattle.table.specs.Records.{chunks, records, allOf}
 use Rattle.table.proofs.Bytes.{byteOf, byte-same, below-next, ranges-hold, record-is, byte-unfit}
@@ -13,19 +14,19 @@ use Rattle.table.proofs.well_formed.records_fit.Statement.{statement}
 use Rattle.table.proofs.well_formed.records_fit.Tie as tie
 
 abbrev Inv-loop : tie.InvT-loop
-Inv-loop t n i a e used j₀ j = (j ≤ 32) × (allBelow (byteOf t i) j ≡ true)
+Inv-loop t n i a e used j₀ j = (j ≤ recordSize) × (allBelow (byteOf t i) j ≡ true)
 
 abbrev μ-loop : tie.MeasureT-loop
-μ-loop t n i a e used j₀ j = 32 - j
+μ-loop t n i a e used j₀ j = recordSize - j
 
 abbrev Inv-records : tie.InvT-records
-Inv-records t n i₀ i = (i ≤ n) × (allOf wellFormed (chunks n t) ≡ allOf wellFormed (chunks (n - i) (drop (i * 32) t)))
+Inv-records t n i₀ i = (i ≤ n) × (allOf wellFormed (chunks n t) ≡ allOf wellFormed (chunks (n - i) (drop (i * recordSize) t)))
 
 abbrev μ-records : tie.MeasureT-records
 μ-records t n i₀ i = n - i
 
 records-holds : tie.Need-records-holds Inv-loop μ-loop Inv-records μ-records
-records-holds c = (omega arith, sym (ap (allOf wellFormed) (rest-whole (length (c .before .args .t .now) / 32) (c .before .args .t .now))))
+records-holds c = (omega arith, sym (ap (allOf wellFormed) (rest-whole (length (c .before .args .t .now) / recordSize) (c .before .args .t .now))))
 
 mul-a : tie.Need-mul-a Inv-loop μ-loop Inv-records μ-records
 mul-a c = omega arith
@@ -60,11 +61,11 @@ loop-again : tie.Need-loop-again Inv-loop μ-loop Inv-records μ-records
 loop-again c =
     let t = c .before .before .before .before .before .before .before .before .before .args .t .now in
     let i = c .before .before .before .before .before .before .before .records .i in
-    let n = length t / 32 in
+    let n = length t / recordSize in
     let l = c .before .before .before .before .loop in
     let j = l .j in
-    let below : j < 32 = omega arith in
-    let yes : byteFits (getD t (i * 32) 0) j (getD t (i * 32 + j) 0) ≡ true = sym (c .before .byte-fits .ensures) ∙ not-false (c .before .byte-fits .result) (c .if2 .left) in
+    let below : j < recordSize = omega arith in
+    let yes : byteFits (getD t (i * recordSize) 0) j (getD t (i * recordSize + j) 0) ≡ true = sym (c .before .byte-fits .ensures) ∙ not-false (c .before .byte-fits .result) (c .if2 .left) in
     (omega arith, below-next (byteOf t i) j (l .inv .1) (byte-same t i j below ∙ yes))
 
 sub-rest-fits : tie.Need-sub-rest-fits Inv-loop μ-loop Inv-records μ-records
@@ -80,10 +81,10 @@ rest-fits-requires : tie.Need-rest-fits-requires Inv-loop μ-loop Inv-records μ
 rest-fits-requires c κs =
     let t = c .before .before .before .before .before .before .before .args .t .now in
     let i = c .before .before .before .before .before .records .i in
-    let n = length t / 32 in
+    let n = length t / recordSize in
     let l = c .before .before .loop in
     let h : i < n = omega arith in
-    let e : l .j ≡ 32 = omega arith in
+    let e : l .j ≡ recordSize = omega arith in
     (length-part t i h, ap rangesFit (part-is t i) ∙ ranges-hold t i (l .j) e (l .inv .1))
 
 add-i : tie.Need-add-i Inv-loop μ-loop Inv-records μ-records
@@ -96,19 +97,19 @@ records-again : tie.Need-records-again Inv-loop μ-loop Inv-records μ-records
 records-again c =
     let t = c .before .before .before .before .before .before .before .before .before .args .t .now in
     let i = c .before .before .before .before .before .before .before .records .i in
-    let n = length t / 32 in
+    let n = length t / recordSize in
     let l = c .before .before .before .before .loop in
     let h : i < n = omega arith in
-    let e : l .j ≡ 32 = omega arith in
+    let e : l .j ≡ recordSize = omega arith in
     let rest : restFits (nth t i) ≡ true = ap restFits (sym (part-is t i)) ∙ sym (c .before .rest-fits .ensures) ∙ not-false (c .before .rest-fits .result) (c .if3 .left) in
-    (omega arith, c .before .before .before .before .before .before .before .records .inv .1 ∙ all-next wellFormed n i t h ∙ ap (λ (b : Bool). b && allOf wellFormed (chunks (n - (i + 1)) (drop ((i + 1) * 32) t))) (record-is (nth t i) true (ranges-hold t i (l .j) e (l .inv .1)) rest))
+    (omega arith, c .before .before .before .before .before .before .before .records .inv .1 ∙ all-next wellFormed n i t h ∙ ap (λ (b : Bool). b && allOf wellFormed (chunks (n - (i + 1)) (drop ((i + 1) * recordSize) t))) (record-is (nth t i) true (ranges-hold t i (l .j) e (l .inv .1)) rest))
 
 returns : tie.Need-returns Inv-loop μ-loop Inv-records μ-records
 unfolding records
 returns c =
     let t = c .before .before .before .args .t .now in
     let i = c .before .records .i in
-    let n = length t / 32 in
+    let n = length t / recordSize in
     let e : i ≡ n = omega arith in
     sym (c .before .records .inv .1 ∙ all-end wellFormed n i t e)
 
@@ -117,24 +118,24 @@ unfolding records
 returns-2 c =
     let t = c .before .before .before .before .before .before .before .before .before .args .t .now in
     let i = c .before .before .before .before .before .before .before .records .i in
-    let n = length t / 32 in
+    let n = length t / recordSize in
     let j = c .before .before .before .before .loop .j in
     let h : i < n = omega arith in
-    let below : j < 32 = omega arith in
-    let no : byteFits (getD t (i * 32) 0) j (getD t (i * 32 + j) 0) ≡ false = sym (c .before .byte-fits .ensures) ∙ not-true (c .before .byte-fits .result) (c .if2 .taken) in
-    sym (c .before .before .before .before .before .before .before .records .inv .1 ∙ all-next wellFormed n i t h ∙ ap (λ (b : Bool). b && allOf wellFormed (chunks (n - (i + 1)) (drop ((i + 1) * 32) t))) (byte-unfit t i j below (byte-same t i j below ∙ no)))
+    let below : j < recordSize = omega arith in
+    let no : byteFits (getD t (i * recordSize) 0) j (getD t (i * recordSize + j) 0) ≡ false = sym (c .before .byte-fits .ensures) ∙ not-true (c .before .byte-fits .result) (c .if2 .taken) in
+    sym (c .before .before .before .before .before .before .before .records .inv .1 ∙ all-next wellFormed n i t h ∙ ap (λ (b : Bool). b && allOf wellFormed (chunks (n - (i + 1)) (drop ((i + 1) * recordSize) t))) (byte-unfit t i j below (byte-same t i j below ∙ no)))
 
 returns-3 : tie.Need-returns-3 Inv-loop μ-loop Inv-records μ-records
 unfolding records
 returns-3 c =
     let t = c .before .before .before .before .before .before .before .before .before .args .t .now in
     let i = c .before .before .before .before .before .before .before .records .i in
-    let n = length t / 32 in
+    let n = length t / recordSize in
     let l = c .before .before .before .before .loop in
     let h : i < n = omega arith in
-    let e : l .j ≡ 32 = omega arith in
+    let e : l .j ≡ recordSize = omega arith in
     let rest : restFits (nth t i) ≡ false = ap restFits (sym (part-is t i)) ∙ sym (c .before .rest-fits .ensures) ∙ not-true (c .before .rest-fits .result) (c .if3 .taken) in
-    sym (c .before .before .before .before .before .before .before .records .inv .1 ∙ all-next wellFormed n i t h ∙ ap (λ (b : Bool). b && allOf wellFormed (chunks (n - (i + 1)) (drop ((i + 1) * 32) t))) (record-is (nth t i) false (ranges-hold t i (l .j) e (l .inv .1)) rest))
+    sym (c .before .before .before .before .before .before .before .records .inv .1 ∙ all-next wellFormed n i t h ∙ ap (λ (b : Bool). b && allOf wellFormed (chunks (n - (i + 1)) (drop ((i + 1) * recordSize) t))) (record-is (nth t i) false (ranges-hold t i (l .j) e (l .inv .1)) rest))
 
 pub records-fit-spec : {M : Type 1} → statement M
 records-fit-spec =

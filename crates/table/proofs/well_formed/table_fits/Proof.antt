@@ -6,6 +6,7 @@ use mathlib.Core.Path.{sym, ap, _∙_}
 use mathlib.Core.Bool.{Bool, _&&_}
 use borrow.Author.Tests.{eqb-true}
 use Rattle.bits.proofs.Choice.{and-right}
+use Rattle.record.specs.Layout.{recordSize}
 use Rattle.record.specs.WellFormed.{wellFormed}
 use Rattle.table.specs.Records.{records, allOf}
 use Rattle.table.specs.Lent.{sized, tableFits}
@@ -19,8 +20,8 @@ mul-if1 c = search needs
 records-fit-requires : tie.Need-records-fit-requires
 records-fit-requires c κs =
     let n = length (c .before .before .args .t .now) in
-    let last = eqb (n % 32) 0 in
-    eqb-true (n % 32) 0 (and-right (leb n 32768) last (and-right (leb 32 n) (leb n 32768 && last) (c .if1 .taken)))
+    let last = eqb (n % recordSize) 0 in
+    eqb-true (n % recordSize) 0 (and-right (leb n 32768) last (and-right (leb recordSize n) (leb n 32768 && last) (c .if1 .taken)))
 
 returns : tie.Need-returns
 unfolding tableFits sized
