@@ -9,14 +9,14 @@ use crate::Rule;
 use crate::Service;
 
 // The minute at which the record ends.
-pub fn expiry(r: &[u8]) -> u32
+pub(crate) fn expiry(r: &[u8]) -> u32
     requires { ⌜ length (now r) ≡ recordSize ⌝ }
     ensures { λ n. ⌜ n ≡ expiryIn (now (r .entry)) ⌝ }
 {
     r[12] as u32 + 0x100 * (r[13] as u32) + 0x1_0000 * (r[14] as u32) + 0x100_0000 * (r[15] as u32)
 }
 
-pub fn location(r: &[u8]) -> u16
+pub(crate) fn location(r: &[u8]) -> u16
     requires { ⌜ length (now r) ≡ recordSize ⌝ }
     ensures { λ n. ⌜ n ≡ locationIn (now (r .entry)) ⌝ }
 {

@@ -15,7 +15,7 @@ fn entry_fits(x: u16) -> bool
 }
 
 // Whether there are 2,048 entries and each fits.
-pub fn catalogue_fits(c: &[u16]) -> bool
+pub(crate) fn catalogue_fits(c: &[u16]) -> bool
     ensures { λ b. ⌜ b ≡ catalogueFits (now (c .entry)) ⌝ }
 {
     if c.len() != Table::EVENTS {
@@ -32,7 +32,7 @@ pub fn catalogue_fits(c: &[u16]) -> bool
 }
 
 // Whether there are 16 lives of at most 10,080 minutes.
-pub fn lives_fit(l: &[u16]) -> bool
+pub(crate) fn lives_fit(l: &[u16]) -> bool
     ensures { λ b. ⌜ b ≡ livesFit (now (l .entry)) ⌝ }
 {
     if l.len() != Table::LIVES {

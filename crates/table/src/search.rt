@@ -11,7 +11,7 @@ use record::Rule;
 use record::freeing::falls_under;
 
 // The lowest-numbered record that is free, expired or matching, or the number of records where there is none.
-pub fn find_place(t: &[u8], minute: u32, key: Key) -> usize
+pub(crate) fn find_place(t: &[u8], minute: u32, key: Key) -> usize
     requires { ⌜ length (now t) % recordSize ≡ 0 ⌝ }
     ensures { λ i. ⌜ i ≡ firstOf (vacant minute key) (records (now (t .entry))) ⌝ }
 {

@@ -10,7 +10,7 @@ use record::Rule;
 use record::freeing::free_if;
 
 // Frees every record that falls under the rule, and answers how many there were.
-pub fn sweep(t: &mut [u8], rule: Rule) -> usize
+pub(crate) fn sweep(t: &mut [u8], rule: Rule) -> usize
     requires { ⌜ length (now t) % recordSize ≡ 0 ⌝ }
     ensures { λ n. ⌜ n ≡ countWhere (falls rule) (now (t .entry)) ⌝ }
     ensures { λ _. ⌜ now (t .exit) ≡ freeWhere (falls rule) (now (t .entry)) ⌝ }

@@ -12,7 +12,7 @@ use record::test::byte_fits;
 use record::test::rest_fits;
 
 // Whether the bytes are 1 to 1,024 well-formed records.
-pub fn table_fits(t: &[u8]) -> bool
+pub(crate) fn table_fits(t: &[u8]) -> bool
     ensures { λ b. ⌜ b ≡ tableFits (now (t .entry)) ⌝ }
 {
     let length = t.len();
