@@ -30,7 +30,7 @@ use Rattle.report.proofs.Kept.{no-items, single-none, report-items}
 use Rattle.record.specs.declared.Service.{Service}
 use Rattle.record.specs.Layout.{recordSize, byteAt, contentIn, expiryIn}
 use Rattle.record.specs.Made.{recordOf}
-use Rattle.record.specs.WellFormed.{lows, highs, byteFits, allBelow, rangesFit, contentBits, spareIn, restFits, wellFormed}
+use Rattle.record.specs.WellFormed.{lows, highs, inRange, byteFits, allBelow, rangesFit, contentBits, spareIn, restFits, wellFormed}
 use Rattle.record.proofs.Kept.{groups-few}
 use Rattle.record.proofs.Fields.{length-made, used-back, groups-back, expiry-back, content-back, class-back, country-back}
 use Rattle.record.proofs.WayBack.{bits-back}
@@ -83,7 +83,7 @@ next-fits p n e h = ap₂ (λ (a b : Bool). a && b) h e
 
 -- a byte of a used record between the least and the greatest
 byte-fits : (j u b : ℕ) → u ≡ 1 → getD lows j 0 ≤ b → b ≤ getD highs j 0 → byteFits u j b ≡ true
-unfolding byteFits
+unfolding inRange
 byte-fits j u b e l h = passed-over _ _ _ (ne-eqb u 0 (λ z. omega arith)) ∙ ap₂ (λ (x y : Bool). x && y) (le-leb (getD lows j 0) b l) (le-leb b (getD highs j 0) h)
 
 -- the content may be any bytes
@@ -127,8 +127,8 @@ module _ (r : Report) (s : Service) (class expiry : ℕ) (c : Storable r s class
   made = recordOf r s class expiry
 
   -- byte j is in its range
-  abbrev inRange : ℕ → Bool
-  inRange j = byteFits (byteAt made 0) j (byteAt made j)
+  abbrev byteOk : ℕ → Bool
+  byteOk j = byteFits (byteAt made 0) j (byteAt made j)
 
   spare-zero : allZero (spareIn made) ≡ true
   spare-zero =
@@ -142,40 +142,40 @@ module _ (r : Report) (s : Service) (class expiry : ℕ) (c : Storable r s class
   content-byte : (j : ℕ) → j < 14 → byteAt made (16 + j) ≡ getD (bytesOf (listed (r .items))) j 0
   content-byte j k = sym (getD-take 14 (drop 16 made) j 0 k ∙ getD-drop 16 made j 0) ∙ ap (λ (l : List ℕ). getD l j 0) (content-back r s class expiry)
 
-  content-ranges : (n : ℕ) → n ≤ 14 → allBelow inRange 16 ≡ true → allBelow inRange (16 + n) ≡ true
+  content-ranges : (n : ℕ) → n ≤ 14 → allBelow byteOk 16 ≡ true → allBelow byteOk (16 + n) ≡ true
   content-ranges zero h before = before
   content-ranges (suc n) h before =
       let e : 16 + suc n ≡ suc (16 + n) = omega arith in
       let k : n < 14 = omega arith in
       let b : byteAt made (16 + n) ≤ 255 = omega (arith, content-byte n k, byte-lt (listed (r .items)) n (its-short r (c .report-fits)) k) in
       let fine = byte-fits (16 + n) (byteAt made 0) (byteAt made (16 + n)) (used-back r s class expiry) (omega (arith, content-low n k)) (omega (arith, content-high n k)) in
-      ap (allBelow inRange) e ∙ next-fits inRange (16 + n) fine (content-ranges n (omega arith) before)
+      ap (allBelow byteOk) e ∙ next-fits byteOk (16 + n) fine (content-ranges n (omega arith) before)
 
-  first-ranges : allBelow inRange 16 ≡ true
+  first-ranges : allBelow byteOk 16 ≡ true
   unfolding recordOf lows highs allBelow
   first-ranges =
       let in-report = report-ranges r (c .report-fits) in
       let in-head = in-report .head-in in
       let few = groups-few r (c .report-fits) in
       let hold = groups-hold r (c .report-fits) in
-      let start : allBelow inRange 0 ≡ true = refl in
+      let start : allBelow byteOk 0 ≡ true = refl in
       let at : (j b : ℕ) → getD lows j 0 ≤ b → b ≤ getD highs j 0 → byteFits 1 j b ≡ true = λ j b l h. byte-fits j 1 b refl l h in
-      next-fits inRange 15 (at 15 (expiry / 0x100_0000) (omega arith) (omega arith))
-      (next-fits inRange 14 (at 14 (expiry / 0x1_0000 % 256) (omega arith) (omega arith))
-      (next-fits inRange 13 (at 13 (expiry / 0x100 % 256) (omega arith) (omega arith))
-      (next-fits inRange 12 (at 12 (expiry % 256) (omega arith) (omega arith))
-      (next-fits inRange 11 (at 11 (r .duration) (omega arith) (omega arith))
-      (next-fits inRange 10 (at 10 (r .diversion) (omega arith) (omega arith))
-      (next-fits inRange 9 (at 9 (r .head .extent) (omega arith) (omega arith))
-      (next-fits inRange 8 (at 8 (r .head .direction) (omega arith) (omega arith))
-      (next-fits inRange 7 (at 7 (r .head .event / 256) (omega arith) (omega arith))
-      (next-fits inRange 6 (at 6 (r .head .event % 256) (omega arith) (omega arith))
-      (next-fits inRange 5 (at 5 (r .head .location / 256) (omega arith) (omega arith))
-      (next-fits inRange 4 (at 4 (r .head .location % 256) (omega arith) (omega arith))
-      (next-fits inRange 3 (at 3 (s .ltn) (omega arith) (omega arith))
-      (next-fits inRange 2 (at 2 (s .sid) (omega arith) (omega arith))
-      (next-fits inRange 1 (at 1 (groupsOf r) (omega arith) (omega arith))
-      (next-fits inRange 0 (at 0 1 (omega arith) (omega arith)) start)))))))))))))))
+      next-fits byteOk 15 (at 15 (expiry / 0x100_0000) (omega arith) (omega arith))
+      (next-fits byteOk 14 (at 14 (expiry / 0x1_0000 % 256) (omega arith) (omega arith))
+      (next-fits byteOk 13 (at 13 (expiry / 0x100 % 256) (omega arith) (omega arith))
+      (next-fits byteOk 12 (at 12 (expiry % 256) (omega arith) (omega arith))
+      (next-fits byteOk 11 (at 11 (r .duration) (omega arith) (omega arith))
+      (next-fits byteOk 10 (at 10 (r .diversion) (omega arith) (omega arith))
+      (next-fits byteOk 9 (at 9 (r .head .extent) (omega arith) (omega arith))
+      (next-fits byteOk 8 (at 8 (r .head .direction) (omega arith) (omega arith))
+      (next-fits byteOk 7 (at 7 (r .head .event / 256) (omega arith) (omega arith))
+      (next-fits byteOk 6 (at 6 (r .head .event % 256) (omega arith) (omega arith))
+      (next-fits byteOk 5 (at 5 (r .head .location / 256) (omega arith) (omega arith))
+      (next-fits byteOk 4 (at 4 (r .head .location % 256) (omega arith) (omega arith))
+      (next-fits byteOk 3 (at 3 (s .ltn) (omega arith) (omega arith))
+      (next-fits byteOk 2 (at 2 (s .sid) (omega arith) (omega arith))
+      (next-fits byteOk 1 (at 1 (groupsOf r) (omega arith) (omega arith))
+      (next-fits byteOk 0 (at 0 1 (omega arith) (omega arith)) start)))))))))))))))
 
   made-ranges : rangesFit made ≡ true
   unfolding rangesFit lows highs
@@ -183,8 +183,8 @@ module _ (r : Report) (s : Service) (class expiry : ℕ) (c : Storable r s class
       let used = used-back r s class expiry in
       let class-is = class-back r s class expiry in
       let country-is = country-back r s class expiry in
-      next-fits inRange 31 (byte-fits 31 (byteAt made 0) (byteAt made 31) used (omega arith) (omega arith))
-      (next-fits inRange 30 (byte-fits 30 (byteAt made 0) (byteAt made 30) used (omega arith) (omega arith)) (content-ranges 14 (omega arith) first-ranges))
+      next-fits byteOk 31 (byte-fits 31 (byteAt made 0) (byteAt made 31) used (omega arith) (omega arith))
+      (next-fits byteOk 30 (byte-fits 30 (byteAt made 0) (byteAt made 30) used (omega arith) (omega arith)) (content-ranges 14 (omega arith) first-ranges))
 
   pub made-fits : wellFormed (recordOf r s class expiry) ≡ true
   unfolding wellFormed restFits

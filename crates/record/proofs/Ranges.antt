@@ -8,7 +8,7 @@ use lib.Dec.{leb, eqb}
 use borrow.Author.Tests.{leb-true, eqb-true, eqb-false, ne-eqb}
 use Rattle.bits.proofs.Choice.{and-left, and-right, passed-over}
 use Rattle.record.specs.Layout.{recordSize, byteAt, groupsIn}
-use Rattle.record.specs.WellFormed.{lows, highs, byteFits, allBelow, rangesFit, restFits, wellFormed}
+use Rattle.record.specs.WellFormed.{lows, highs, inRange, byteFits, allBelow, rangesFit, restFits, wellFormed}
 
 below : {j n : ℕ} → (j ≡ n → ⊥) → j < suc n → j < n
 below {j} {n} ne h = omega arith
@@ -24,7 +24,7 @@ allBelow-at p (suc n) j h k = by-test (eqb j n) refl (allBelow-at p n j (and-lef
 
 -- a used record has one to five groups
 pub groups-range : (r : List ℕ) → rangesFit r ≡ true → (byteAt r 0 ≡ 0 → ⊥) → (1 ≤ groupsIn r) × (groupsIn r ≤ 5)
-unfolding rangesFit byteFits lows highs
+unfolding rangesFit inRange lows highs
 groups-range r h used =
     let fit = allBelow-at (λ j. byteFits (byteAt r 0) j (byteAt r j)) recordSize 1 h (omega arith) in
     let both = sym (passed-over _ _ _ (ne-eqb (byteAt r 0) 0 used)) ∙ fit in

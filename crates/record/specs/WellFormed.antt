@@ -18,9 +18,13 @@ lows = 1 ∷ 1 ∷ 0 ∷ 0 ∷ 0 ∷ 0 ∷ 0 ∷ 0 ∷ 0 ∷ 0 ∷ 0 ∷ 0 ∷ 0
 unfoldable pub highs : List ℕ
 highs = 1 ∷ 5 ∷ 63 ∷ 63 ∷ 255 ∷ 255 ∷ 255 ∷ 7 ∷ 1 ∷ 7 ∷ 1 ∷ 7 ∷ 255 ∷ 255 ∷ 255 ∷ 255 ∷ 255 ∷ 255 ∷ 255 ∷ 255 ∷ 255 ∷ 255 ∷ 255 ∷ 255 ∷ 255 ∷ 255 ∷ 255 ∷ 255 ∷ 255 ∷ 255 ∷ 63 ∷ 15 ∷ []
 
--- byte j of a record whose byte 0 is `used`: zero if the record is free, else in its range
-unfoldable pub byteFits : ℕ → ℕ → ℕ → Bool
-byteFits used j b = cond (eqb used 0) (eqb b 0) (leb (getD lows j 0) b && leb b (getD highs j 0))
+-- a byte of a record whose byte 0 is `used`: zero if the record is free, else from low to high
+unfoldable pub inRange : (used low high b : ℕ) → Bool
+inRange used low high b = cond (eqb used 0) (eqb b 0) (leb low b && leb b high)
+
+-- byte j of it
+abbrev pub byteFits : ℕ → ℕ → ℕ → Bool
+byteFits used j b = inRange used (getD lows j 0) (getD highs j 0) b
 
 -- a test holds of every number below n
 unfoldable pub allBelow : (ℕ → Bool) → ℕ → Bool

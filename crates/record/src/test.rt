@@ -1,93 +1,95 @@
 // Whether the bytes of a record are in their ranges.
 ghost use mathlib.Core.Path.{_≡_};
 ghost use mathlib.Core.Bool.{true};
-ghost use Prim.Native.Nat.{_<_};
 ghost use lib.ListN.{length};
 ghost use Rattle.record.specs.Layout.{recordSize};
-ghost use Rattle.record.specs.WellFormed.{byteFits, rangesFit, restFits};
+ghost use Rattle.record.specs.WellFormed.{inRange, rangesFit, restFits};
+use crate::Record;
 use crate::freeing::expiry;
 use bits::zero::zeros_at;
 use content::content::Content;
 
-const LOWS: [u8; 32] = [
-    1,
-    1,
-    0,
-    0,
-    0,
-    0,
-    0,
-    0,
-    0,
-    0,
-    0,
-    0,
-    0,
-    0,
-    0,
-    0,
-    0,
-    0,
-    0,
-    0,
-    0,
-    0,
-    0,
-    0,
-    0,
-    0,
-    0,
-    0,
-    0,
-    0,
-    1,
-    0,
-];
+impl Record {
+    // The least and the greatest value of each byte of a used record.
+    pub const LOWS: [u8; 32] = [
+        1,
+        1,
+        0,
+        0,
+        0,
+        0,
+        0,
+        0,
+        0,
+        0,
+        0,
+        0,
+        0,
+        0,
+        0,
+        0,
+        0,
+        0,
+        0,
+        0,
+        0,
+        0,
+        0,
+        0,
+        0,
+        0,
+        0,
+        0,
+        0,
+        0,
+        1,
+        0,
+    ];
 
-const HIGHS: [u8; 32] = [
-    1,
-    5,
-    63,
-    63,
-    255,
-    255,
-    255,
-    7,
-    1,
-    7,
-    1,
-    7,
-    255,
-    255,
-    255,
-    255,
-    255,
-    255,
-    255,
-    255,
-    255,
-    255,
-    255,
-    255,
-    255,
-    255,
-    255,
-    255,
-    255,
-    255,
-    63,
-    15,
-];
+    pub const HIGHS: [u8; 32] = [
+        1,
+        5,
+        63,
+        63,
+        255,
+        255,
+        255,
+        7,
+        1,
+        7,
+        1,
+        7,
+        255,
+        255,
+        255,
+        255,
+        255,
+        255,
+        255,
+        255,
+        255,
+        255,
+        255,
+        255,
+        255,
+        255,
+        255,
+        255,
+        255,
+        255,
+        63,
+        15,
+    ];
+}
 
-// Whether byte j may be b in a record whose byte 0 is used: zero in a free record, else in its range.
-pub fn byte_fits(used: u8, j: usize, b: u8) -> bool
-    requires { ⌜ j < recordSize ⌝ }
-    ensures { λ r. ⌜ r ≡ byteFits used j b ⌝ }
+// Whether a byte may be b in a record whose byte 0 is used: zero in a free record, else from low to high.
+pub fn byte_fits(used: u8, low: u8, high: u8, b: u8) -> bool
+    ensures { λ r. ⌜ r ≡ inRange used low high b ⌝ }
 {
     if used == 0 {
         b == 0
     } else {
-        (LOWS[j] <= b) & (b <= HIGHS[j])
+        (low <= b) & (b <= high)
     }
 }
 

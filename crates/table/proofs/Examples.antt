@@ -14,7 +14,7 @@ use Rattle.report.specs.Fits.{singleFits, fitsBy, reportFits}
 use Rattle.record.specs.Layout.{freeRecord}
 use Rattle.record.specs.Rules.{falls, freedIf, sameKey, sameService}
 use Rattle.record.specs.Made.{expiryBytes}
-use Rattle.record.specs.WellFormed.{lows, highs, byteFits, allBelow, rangesFit, restFits, wellFormed}
+use Rattle.record.specs.WellFormed.{lows, highs, inRange, allBelow, rangesFit, restFits, wellFormed}
 use Rattle.table.specs.declared.Arrival.{Arrival}
 use Rattle.table.specs.declared.Answer.the-variants.{Freed, Stored, Refused}
 use Rattle.table.specs.Records.{chunks, records, joined, allOf, countIf, firstOf, freeWhere, countWhere, lowestFree}
@@ -27,11 +27,11 @@ abbrev pub until-100 : List ℕ
 until-100 = (1 ∷ 1 ∷ replicate 10 0) ++ (expiryBytes 100 ++ (replicate 14 0 ++ (1 ∷ 0 ∷ [])))
 
 pub stays-at-99 : (expireStep until-100 0 99 ≡ step 99 (Freed 0 0)) × (expireTable until-100 0 99 ≡ until-100)
-unfolding bit bits flat allZero num lows highs byteFits allBelow rangesFit restFits wellFormed falls freedIf chunks records joined allOf countIf freeWhere countWhere sized tableFits minuteUnfit expireStep expireTable
+unfolding bit bits flat allZero num lows highs inRange allBelow rangesFit restFits wellFormed falls freedIf chunks records joined allOf countIf freeWhere countWhere sized tableFits minuteUnfit expireStep expireTable
 stays-at-99 = (refl, refl)
 
 pub goes-at-100 : (expireStep until-100 0 100 ≡ step 100 (Freed 1 0)) × (expireTable until-100 0 100 ≡ freeRecord)
-unfolding bit bits flat allZero num lows highs byteFits allBelow rangesFit restFits wellFormed falls freedIf chunks records joined allOf countIf freeWhere countWhere sized tableFits minuteUnfit expireStep expireTable
+unfolding bit bits flat allZero num lows highs inRange allBelow rangesFit restFits wellFormed falls freedIf chunks records joined allOf countIf freeWhere countWhere sized tableFits minuteUnfit expireStep expireTable
 goes-at-100 = (refl, refl)
 
 -- a single-group report at a location, at minute 0
@@ -46,9 +46,9 @@ abbrev pub lives : List ℕ
 lives = replicate 16 60
 
 pub own-location : takeStep freeRecord catalogue lives 0 (arrival 0xFBFF) (pos 0) ≡ step 0 (Stored 0 0 0)
-unfolding bit bits flat allZero num lows highs byteFits allBelow rangesFit restFits wellFormed falls sameKey sameService freedIf chunks records joined allOf countIf firstOf freeWhere countWhere lowestFree sized tableFits entryFits catalogueFits livesFit fits offsetFits filled wellPlaced allZeroItems zeroItem singleFits fitsBy reportFits lentFit askedFit minuteUnfit laterRefusal afterBoth matchedIn full ordinaryStep stepBy refusalOf takeStep
+unfolding bit bits flat allZero num lows highs inRange allBelow rangesFit restFits wellFormed falls sameKey sameService freedIf chunks records joined allOf countIf firstOf freeWhere countWhere lowestFree sized tableFits entryFits catalogueFits livesFit fits offsetFits filled wellPlaced allZeroItems zeroItem singleFits fitsBy reportFits lentFit askedFit minuteUnfit laterRefusal afterBoth matchedIn full ordinaryStep stepBy refusalOf takeStep
 own-location = refl
 
 pub foreign-location : takeStep freeRecord catalogue lives 0 (arrival 0xFC00) (pos 0) ≡ step 0 (Refused 12)
-unfolding bit bits flat allZero num lows highs byteFits allBelow rangesFit restFits wellFormed falls sameKey sameService freedIf chunks records joined allOf countIf firstOf freeWhere countWhere lowestFree sized tableFits entryFits catalogueFits livesFit fits offsetFits filled wellPlaced allZeroItems zeroItem singleFits fitsBy reportFits lentFit askedFit minuteUnfit laterRefusal afterBoth matchedIn full ordinaryStep stepBy refusalOf takeStep
+unfolding bit bits flat allZero num lows highs inRange allBelow rangesFit restFits wellFormed falls sameKey sameService freedIf chunks records joined allOf countIf firstOf freeWhere countWhere lowestFree sized tableFits entryFits catalogueFits livesFit fits offsetFits filled wellPlaced allZeroItems zeroItem singleFits fitsBy reportFits lentFit askedFit minuteUnfit laterRefusal afterBoth matchedIn full ordinaryStep stepBy refusalOf takeStep
 foreign-location = refl

@@ -30,6 +30,8 @@ fn records_fit(t: &[u8]) -> bool
     ensures { λ b. ⌜ b ≡ allOf wellFormed (records (now (t .entry))) ⌝ }
 {
     let n = t.len() / Record::SIZE;
+    let lows = Record::LOWS;
+    let highs = Record::HIGHS;
     let mut i = 0;
     'records: loop {
         if i == n {
@@ -40,7 +42,7 @@ fn records_fit(t: &[u8]) -> bool
         let used = t[a];
         let mut j = 0;
         while j < Record::SIZE {
-            if !byte_fits(used, j, t[a + j]) {
+            if !byte_fits(used, lows[j], highs[j], t[a + j]) {
                 break 'records false;
             }
             j += 1;

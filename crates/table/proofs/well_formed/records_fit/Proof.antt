@@ -1,29 +1,30 @@
-use borrow.Author.Tests.{not-true, not-false}
 -- The records passed are well-formed, and of this one the bytes passed are in their ranges.
 use Prim.Native.Nat.{_+_, _-_, _*_, _/_, _≤_, _<_}
 use mathlib.Core.Path.{_≡_, refl, sym, ap, _∙_}
 use native.Mathlib.Omega.{arith}
 use mathlib.Core.Bool.{Bool, true, false, _&&_}
 use lib.ListN.{length, drop, getD}
+use borrow.Author.Tests.{not-true, not-false}
 use Rattle.record.specs.Layout.{recordSize}
-use Rattle.record.specs.WellFormed.{byteFits, allBelow, rangesFit, restFits, wellFormed}
+use Rattle.record.specs.WellFormed.{lows, highs, byteFits, allBelow, rangesFit, restFits, wellFormed}
 use Rattle.table.specs.Records.{chunks, records, allOf}
 use Rattle.table.proofs.Bytes.{byteOf, byte-same, below-next, ranges-hold, record-is, byte-unfit}
 use Rattle.table.proofs.Passes.{nth, part-is, length-part, rest-whole, all-next, all-end}
+use borrow.Author.Needs.{needs}
 use Rattle.table.proofs.well_formed.records_fit.Statement.{statement}
 use Rattle.table.proofs.well_formed.records_fit.Tie as tie
 
 abbrev Inv-loop : tie.InvT-loop
-Inv-loop t n i a e used j₀ j = (j ≤ recordSize) × (allBelow (byteOf t i) j ≡ true)
+Inv-loop t n lo hi i a e used j₀ j = (j ≤ recordSize) × (allBelow (byteOf t i) j ≡ true)
 
 abbrev μ-loop : tie.MeasureT-loop
-μ-loop t n i a e used j₀ j = recordSize - j
+μ-loop t n lo hi i a e used j₀ j = recordSize - j
 
 abbrev Inv-records : tie.InvT-records
-Inv-records t n i₀ i = (i ≤ n) × (allOf wellFormed (chunks n t) ≡ allOf wellFormed (chunks (n - i) (drop (i * recordSize) t)))
+Inv-records t n lo hi i₀ i = (i ≤ n) × (allOf wellFormed (chunks n t) ≡ allOf wellFormed (chunks (n - i) (drop (i * recordSize) t)))
 
 abbrev μ-records : tie.MeasureT-records
-μ-records t n i₀ i = n - i
+μ-records t n lo hi i₀ i = n - i
 
 records-holds : tie.Need-records-holds Inv-loop μ-loop Inv-records μ-records
 records-holds c = (omega arith, sym (ap (allOf wellFormed) (rest-whole (length (c .before .args .t .now) / recordSize) (c .before .args .t .now))))
@@ -41,6 +42,12 @@ loop-holds : tie.Need-loop-holds Inv-loop μ-loop Inv-records μ-records
 unfolding allBelow
 loop-holds c = (omega arith, refl)
 
+array-read-byte-fits : tie.Need-array-read-byte-fits Inv-loop μ-loop Inv-records μ-records
+array-read-byte-fits c = omega arith
+
+array-read-byte-fits-2 : tie.Need-array-read-byte-fits-2 Inv-loop μ-loop Inv-records μ-records
+array-read-byte-fits-2 c = omega arith
+
 add-byte-fits : tie.Need-add-byte-fits Inv-loop μ-loop Inv-records μ-records
 add-byte-fits c = omega arith
 
@@ -49,7 +56,7 @@ shared-slice-read-byte-fits :
 shared-slice-read-byte-fits c = omega arith
 
 byte-fits-requires : tie.Need-byte-fits-requires Inv-loop μ-loop Inv-records μ-records
-byte-fits-requires c κs = omega arith
+byte-fits-requires c κs = search needs
 
 add-j : tie.Need-add-j Inv-loop μ-loop Inv-records μ-records
 add-j c = omega arith
@@ -58,6 +65,7 @@ loop-less : tie.Need-loop-less Inv-loop μ-loop Inv-records μ-records
 loop-less c = omega arith
 
 loop-again : tie.Need-loop-again Inv-loop μ-loop Inv-records μ-records
+unfolding lows highs
 loop-again c =
     let t = c .before .before .before .before .before .before .before .before .before .args .t .now in
     let i = c .before .before .before .before .before .before .before .records .i in
@@ -114,7 +122,7 @@ returns c =
     sym (c .before .records .inv .1 ∙ all-end wellFormed n i t e)
 
 returns-2 : tie.Need-returns-2 Inv-loop μ-loop Inv-records μ-records
-unfolding records
+unfolding records lows highs
 returns-2 c =
     let t = c .before .before .before .before .before .before .before .before .before .args .t .now in
     let i = c .before .before .before .before .before .before .before .records .i in
@@ -150,6 +158,8 @@ records-fit-spec =
     add-e
     shared-slice-read-used
     loop-holds
+    array-read-byte-fits
+    array-read-byte-fits-2
     add-byte-fits
     shared-slice-read-byte-fits
     byte-fits-requires

@@ -1,7 +1,7 @@
+-- The number of bytes, and then every record.
 use Prim.Native.Nat.{_%_}
 use lib.ListN.{length}
 use lib.Dec.{leb, eqb}
--- The number of bytes, and then every record.
 use mathlib.Core.Path.{sym, ap, _∙_}
 use mathlib.Core.Bool.{Bool, _&&_}
 use borrow.Author.Tests.{eqb-true}
