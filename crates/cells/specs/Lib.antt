@@ -1,0 +1,4 @@
+pub mod Written
+pub mod Ranges
+pub mod Reports
+pub mod Assemblers
