@@ -1,11 +1,4 @@
-// The library's calls for C (include/alertc.h).
-ghost use mathlib.Core.Path.{_≡_};
-ghost use Rattle.crc.specs.Register.{checkWord};
-
-// The check word of DRM data units.
-#[no_mangle]
-pub extern "C" fn alertc_check_word(bytes: &[u8]) -> u16
-    ensures { λ r. ⌜ r ≡ checkWord (now (bytes .entry)) ⌝ }
-{
-    crc::check_word(bytes)
-}
+// The library's calls for C (include/alertc.h): each tests the sizes of what it is lent, makes values of the cells, calls the library and writes
+// its answer into cells.
+mod assembling;
+mod drm;

@@ -1,2 +1,3 @@
-mod Arrays
+pub mod Arrays
+pub mod Writing
 mod Places

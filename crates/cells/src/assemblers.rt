@@ -31,7 +31,7 @@ const OPEN: [u64; CELLS] = [
 
 // The cells of a state.
 pub fn assembler_cells(a: Assembler) -> [u64; CELLS]
-    ensures { λ s. ⌜ s ≡ assemblerCells a ⌝ }
+    ensures { λ s. ⌜ (s ≡ assemblerCells a) × (length s ≡ 11) ⌝ }
 {
     match a {
         Assembler::Empty => [0u64; CELLS],

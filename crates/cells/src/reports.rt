@@ -90,7 +90,7 @@ const LIMITS: [u64; CELLS] = [
 
 // The cells of a report.
 pub fn report_cells(r: Report) -> [u64; CELLS]
-    ensures { λ s. ⌜ s ≡ reportCells r ⌝ }
+    ensures { λ s. ⌜ (s ≡ reportCells r) × (length s ≡ 64) ⌝ }
 {
     let form = r.form;
     let head = r.head;
@@ -109,7 +109,7 @@ pub fn report_cells(r: Report) -> [u64; CELLS]
 
 // The cells with those of the places after the first eight.
 fn with_places(items: Items, mut cells: [u64; CELLS]) -> [u64; CELLS]
-    ensures { λ s. ⌜ s ≡ take 8 cells ++ itemCells (items .places) ⌝ }
+    ensures { λ s. ⌜ (s ≡ take 8 cells ++ itemCells (items .places)) × (length s ≡ 64) ⌝ }
 {
     let mut i = 0;
     while i < Items::LIMIT {

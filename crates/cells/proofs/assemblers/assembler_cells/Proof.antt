@@ -1,5 +1,5 @@
 -- By the state.
-use mathlib.Core.Path.{sym, ap}
+use mathlib.Core.Path.{refl, sym, ap}
 use Rattle.cells.specs.Assemblers.{assemblerCells}
 use borrow.Author.Needs.{needs}
 use Rattle.cells.proofs.assemblers.assembler_cells.Statement.{statement}
@@ -43,11 +43,11 @@ cast-t13 c = search needs
 
 returns : tie.Need-returns
 unfolding assemblerCells
-returns c = sym (ap assemblerCells (c .enum-told .given .1))
+returns c = (sym (ap assemblerCells (c .enum-told .given .1)), refl)
 
 returns-2 : tie.Need-returns-2
 unfolding assemblerCells
-returns-2 c = sym (ap assemblerCells (c .before .before .before .before .before .before .before .before .before .before .before .a .given .1))
+returns-2 c = (sym (ap assemblerCells (c .before .before .before .before .before .before .before .before .before .before .before .a .given .1)), refl)
 
 pub assembler-cells-spec : {M : Type 1} → statement M
 assembler-cells-spec =

@@ -86,7 +86,7 @@ returns c =
     let n : length places ≡ limit = sym (length-map places _) ∙ s .good .0 .1 .1 .1 .0 .1 .0 .1 in
     let all : length places ≤ l .i = omega arith in
     let whole : length (l .cells) ≤ 8 + 2 * l .i = omega arith in
-    sym (take-all (8 + 2 * l .i) (l .cells) whole) ∙ l .inv .2 ∙ ap (λ (p : List Item). take 8 (s .args .t2) ++ itemCells p) (take-all (l .i) places all)
+    (sym (take-all (8 + 2 * l .i) (l .cells) whole) ∙ l .inv .2 ∙ ap (λ (p : List Item). take 8 (s .args .t2) ++ itemCells p) (take-all (l .i) places all), l .inv .1)
 
 pub with-places-spec : {M : Type 1} → statement M
 with-places-spec =

@@ -1,0 +1,56 @@
+-- By the answer.
+use mathlib.Core.Path.{sym, ap}
+use Rattle.capi.specs.Assembling.{numberOf}
+use borrow.Author.Needs.{needs}
+use Rattle.capi.proofs.assembling.number.Statement.{statement}
+use Rattle.capi.proofs.assembling.number.Tie as tie
+
+enum-told : tie.Need-enum-told
+enum-told c = search needs
+
+enum-told-2 : tie.Need-enum-told-2
+enum-told-2 c = search needs
+
+enum-told-3 : tie.Need-enum-told-3
+enum-told-3 c = search needs
+
+enum-told-4 : tie.Need-enum-told-4
+enum-told-4 c = search needs
+
+enum-known-answer : tie.Need-enum-known-answer
+enum-known-answer c = search needs
+
+returns : tie.Need-returns
+unfolding numberOf
+returns c = sym (ap numberOf (c .enum-told .given .1))
+
+returns-2 : tie.Need-returns-2
+unfolding numberOf
+returns-2 c = sym (ap numberOf (c .enum-told2 .given .1))
+
+returns-3 : tie.Need-returns-3
+unfolding numberOf
+returns-3 c = sym (ap numberOf (c .enum-told3 .given .1))
+
+returns-4 : tie.Need-returns-4
+unfolding numberOf
+returns-4 c = sym (ap numberOf (c .enum-told4 .given .1))
+
+returns-5 : tie.Need-returns-5
+unfolding numberOf
+returns-5 c = sym (ap numberOf (c .before .answer .given .1))
+
+pub number-spec : {M : Type 1} → statement M
+number-spec =
+    tie.close
+    (tie.spec
+    enum-told
+    enum-told-2
+    enum-told-3
+    enum-told-4
+    enum-known-answer
+    returns
+    returns-2
+    returns-3
+    returns-4
+    returns-5)
