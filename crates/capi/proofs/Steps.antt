@@ -23,8 +23,8 @@ unfolding stepNumber stateAfter answerAfter
 too-small s word out h = (
   sym (chosen _ _ _ h),
   (
-  sym (chosen _ _ _ (ap (λ (b : Bool). b || eqb (numberOf (stepFrom s word .answer)) 9) h)),
-  sym (chosen _ _ _ h),
+    sym (chosen _ _ _ (ap (λ (b : Bool). b || eqb (numberOf (stepFrom s word .answer)) 9) h)),
+    sym (chosen _ _ _ h),
   ),
 )
 
@@ -43,8 +43,8 @@ unfolding stepNumber stateAfter answerAfter
 unfit s word out h n = (
   sym (passed-over _ _ _ h ∙ n),
   (
-  sym (chosen _ _ _ (ap₂ _||_ h (eq-eqb _ _ n))),
-  sym (passed-over _ _ _ h ∙ ap (λ (l : List ℕ). written l out) (no-cells (stepFrom s word .answer) (stepFrom s word .report) n) ∙ nothing-written out),
+    sym (chosen _ _ _ (ap₂ _||_ h (eq-eqb _ _ n))),
+    sym (passed-over _ _ _ h ∙ ap (λ (l : List ℕ). written l out) (no-cells (stepFrom s word .answer) (stepFrom s word .report) n) ∙ nothing-written out),
   ),
 )
 
@@ -57,7 +57,7 @@ unfolding stepNumber stateAfter answerAfter
 stepped s word out h n = (
   sym (passed-over _ _ _ h),
   (
-  sym (passed-over _ _ _ (ap₂ _||_ h (ne-eqb _ _ n))),
-  sym (passed-over _ _ _ h),
+    sym (passed-over _ _ _ (ap₂ _||_ h (ne-eqb _ _ n))),
+    sym (passed-over _ _ _ h),
   ),
 )

@@ -81,11 +81,11 @@ returns-3 c =
     let all = stepped s (a .word) out (c .before .before .before .before .before .before .before .before .before .before .before .before .before .before .before .before .if1 .left) (λ h. c .before .before .before .before .before .before .before .before .before .before .if2 .left (number ∙ h)) in (
       number ∙ all .0,
       (
-      c .before .before .before .before .before .before .put .ensures
-          ∙ ap (λ (x : List ℕ). writtenAt 0 x s) (c .before .before .before .before .before .before .before .before .before .assembler-cells .ensures .0 ∙ ap (λ (x : Step). assemblerCells (x .next)) step)
-          ∙ put-first _ s
-          ∙ all .1 .0,
-      c .before .before .put-answer .ensures ∙ ap (λ (x : Step). written (answerCells (x .answer) (x .report)) out) step ∙ all .1 .1,
+        c .before .before .before .before .before .before .put .ensures
+            ∙ ap (λ (x : List ℕ). writtenAt 0 x s) (c .before .before .before .before .before .before .before .before .before .assembler-cells .ensures .0 ∙ ap (λ (x : Step). assemblerCells (x .next)) step)
+            ∙ put-first _ s
+            ∙ all .1 .0,
+        c .before .before .put-answer .ensures ∙ ap (λ (x : Step). written (answerCells (x .answer) (x .report)) out) step ∙ all .1 .1,
       ),
     )
 

@@ -58,12 +58,13 @@ with-places-requires c κs = search needs
 returns : tie.Need-returns
 unfolding reportCells
 returns c =
-    let r = c .before .before .before .before .before .before .before .before .before .before .args .r in
-    (c .with-places .ensures .0
-    ∙ ap
-    (λ (f : ℕ). (f ∷ r .head .event ∷ r .head .location ∷ r .head .direction ∷ r .head .extent ∷ r .diversion ∷ r .duration ∷ r .items .count ∷ []) ++ itemCells (r .items .places))
-    (c .before .before .before .before .before .before .before .form-cell .ensures),
-    c .with-places .ensures .1)
+    let r = c .before .before .before .before .before .before .before .before .before .before .args .r in (
+      c .with-places .ensures .0
+          ∙ ap
+          (λ (f : ℕ). (f ∷ r .head .event ∷ r .head .location ∷ r .head .direction ∷ r .head .extent ∷ r .diversion ∷ r .duration ∷ r .items .count ∷ []) ++ itemCells (r .items .places))
+          (c .before .before .before .before .before .before .before .form-cell .ensures),
+      c .with-places .ensures .1,
+    )
 
 pub report-cells-spec : {M : Type 1} → statement M
 report-cells-spec =
