@@ -11,7 +11,6 @@ use Rattle.record.specs.declared.Answer.the-variants as reading
 use Rattle.table.specs.declared.Arrival.{Arrival}
 use Rattle.table.specs.declared.Answer.{Answer}
 use Rattle.table.specs.declared.Answer.the-variants as answer
-use Rattle.table.specs.declared.Step.{Step}
 use Rattle.table.specs.Take.{takeStep, takeTable}
 use Rattle.table.specs.Read.{recordAt}
 use Rattle.cells.specs.Written.{written}

@@ -1,6 +1,6 @@
 -- A report as 64 numbers (include/alertc.h, "Reports").
 use Prim.Native.Nat.{ℕ, zero, suc}
-use mathlib.Core.Bool.{Bool, cond}
+use mathlib.Core.Bool.{cond}
 use mathlib.Core.List.{List, [], _∷_, _++_}
 use lib.ListN.{take, drop, getD}
 use Rattle.content.specs.declared.item.Item.{Item}

@@ -1,9 +1,7 @@
 -- By the size, and then by what is read.
-use mathlib.Core.Path.{_≡_, refl, sym, ap, ap₂, _∙_}
-use native.Mathlib.Omega.{arith}
-use Prim.Native.Nat.{ℕ, _≤_}
-use mathlib.Core.List.{List, [], _∷_}
-use lib.ListN.{length, length-set}
+use mathlib.Core.Path.{sym, ap, _∙_}
+use mathlib.Core.List.{[], _∷_}
+use lib.ListN.{length}
 use Rattle.fig.specs.declared.Reading.{Reading}
 use Rattle.fig.specs.Read.{wordsAfter as wordsIn}
 use lib.ListN.{drop}

@@ -1,9 +1,5 @@
 -- What the writer answers.
-use mathlib.Core.Path.{_≡_, refl, sym, ap, ap₂, _∙_}
-use native.Mathlib.Omega.{arith}
-use Prim.Native.Nat.{ℕ, _≤_}
-use mathlib.Core.List.{List, [], _∷_}
-use lib.ListN.{length, length-set}
+use mathlib.Core.Path.{sym, ap, _∙_}
 use Rattle.fig.specs.declared.Writing.{Writing}
 use Rattle.fig.specs.Write.{bytesAfter}
 use Rattle.capi.specs.Figs.{figOf, writeNumber, countWritten}

@@ -1,8 +1,7 @@
 -- By the size, and then by what is read.
-use mathlib.Core.Path.{_≡_, refl, sym, ap, ap₂, _∙_}
+use mathlib.Core.Path.{sym, ap, _∙_}
 use native.Mathlib.Omega.{arith}
-use Prim.Native.Nat.{ℕ, _≤_}
-use mathlib.Core.List.{List, [], _∷_}
+use mathlib.Core.List.{[], _∷_}
 use lib.ListN.{length, length-set}
 use Rattle.rds.specs.declared.Reading.{Reading}
 use Rattle.cells.specs.Written.{written}

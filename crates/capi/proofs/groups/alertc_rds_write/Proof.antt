@@ -1,5 +1,5 @@
 -- What the writer answers.
-use mathlib.Core.Path.{_≡_, refl, sym, ap, ap₂, _∙_}
+use mathlib.Core.Path.{sym, ap, _∙_}
 use Rattle.capi.specs.Groups.{writeNumber}
 use borrow.Author.Needs.{needs}
 use Rattle.capi.proofs.groups.alertc_rds_write.Statement.{statement}

@@ -1,9 +1,6 @@
 -- By the size, and then by what the writer answers.
-use mathlib.Core.Path.{_≡_, refl, sym, ap, ap₂, _∙_}
-use native.Mathlib.Omega.{arith}
-use Prim.Native.Nat.{ℕ, _≤_}
-use mathlib.Core.List.{List, [], _∷_}
-use lib.ListN.{length, length-set}
+use mathlib.Core.Path.{sym, ap, _∙_}
+use lib.ListN.{length}
 use Rattle.report.specs.declared.Report.{Report}
 use Rattle.report.specs.Write.{writeReport, wordsAfter as wordsIn}
 use Rattle.capi.specs.Reporting.{writingNumber, countWritten, writeNumber, wordsAfter, countAfter}

@@ -1,12 +1,9 @@
 -- By the sizes, the run and then by the answer.
-use mathlib.Core.Path.{_≡_, refl, sym, ap, ap₂, _∙_}
+use mathlib.Core.Path.{sym, ap, _∙_}
 use native.Mathlib.Omega.{arith}
-use Prim.Native.Nat.{ℕ, _≤_}
-use mathlib.Core.List.{List, [], _∷_}
-use lib.ListN.{length, length-set}
+use Prim.Native.Nat.{_≤_}
+use lib.ListN.{length}
 use mathlib.Core.Bool.{not}
-use lib.ListN.{getD}
-use borrow.Author.Tests.{not-true, not-false}
 use Rattle.rds.specs.declared.Run.{Run}
 use Rattle.rds.specs.declared.Step.{Step}
 use Rattle.rds.specs.Repeat.{received}

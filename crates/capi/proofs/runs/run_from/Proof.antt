@@ -1,5 +1,5 @@
 -- By the mark.
-use mathlib.Core.Path.{_≡_, refl, sym, ap, ap₂, _∙_}
+use mathlib.Core.Path.{sym, _∙_}
 use borrow.Author.Tests.{eq-eqb, ne-eqb}
 use Rattle.bits.proofs.Choice.{chosen, passed-over}
 use Rattle.capi.specs.Runs.{runFrom}

@@ -1,9 +1,6 @@
 -- By the size, and then by what is read.
-use mathlib.Core.Path.{_≡_, refl, sym, ap, ap₂, _∙_}
-use native.Mathlib.Omega.{arith}
-use Prim.Native.Nat.{ℕ, _≤_}
-use mathlib.Core.List.{List, [], _∷_}
-use lib.ListN.{length, length-set}
+use mathlib.Core.Path.{ap, _∙_}
+use lib.ListN.{length}
 use Rattle.record.specs.declared.Reading.{Reading}
 use Rattle.cells.specs.Written.{written}
 use Rattle.capi.specs.Tables.{readingNumber, recordCells, readNumber, recordAfter}

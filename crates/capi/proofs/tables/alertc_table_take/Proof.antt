@@ -1,9 +1,6 @@
 -- By the sizes, and then what the table answers.
-use mathlib.Core.Path.{_≡_, refl, sym, ap, ap₂, _∙_}
-use native.Mathlib.Omega.{arith}
-use Prim.Native.Nat.{ℕ, _≤_}
-use mathlib.Core.List.{List, [], _∷_}
-use lib.ListN.{length, length-set}
+use mathlib.Core.Path.{sym, ap, ap₂, _∙_}
+use lib.ListN.{length}
 use lib.IntN.{ℤ}
 use mir.Syntax.{w8}
 use mir.ValLaws.{toZ-ofZ}
@@ -14,7 +11,7 @@ use Rattle.table.specs.Take.{takeStep, takeTable}
 use Rattle.bits.proofs.Choice.{chosen, passed-over}
 use Rattle.cells.specs.Written.{written}
 use Rattle.cells.proofs.Writing.{roomy-left, roomy-right}
-use Rattle.capi.specs.Tables.{numberOf, takeCells, arrivalOf, takeNumber, tableAfter, clockAfter, answerAfter}
+use Rattle.capi.specs.Tables.{numberOf, takeCells, takeNumber, tableAfter, clockAfter, answerAfter}
 use borrow.Author.Needs.{needs}
 use Rattle.capi.proofs.tables.alertc_table_take.Statement.{statement}
 use Rattle.capi.proofs.tables.alertc_table_take.Tie as tie

@@ -1,9 +1,8 @@
 -- By the answer.
-use mathlib.Core.Path.{_≡_, refl, sym, ap, ap₂, _∙_}
+use mathlib.Core.Path.{sym, ap, _∙_}
 use native.Mathlib.Omega.{arith}
-use Prim.Native.Nat.{ℕ, _≤_}
-use mathlib.Core.List.{List, [], _∷_}
-use lib.ListN.{length, length-set}
+use mathlib.Core.List.{[], _∷_}
+use lib.ListN.{length-set}
 use Rattle.table.specs.declared.Answer.{Answer}
 use Rattle.cells.specs.Written.{written}
 use Rattle.cells.proofs.Writing.{stored, nothing-written}

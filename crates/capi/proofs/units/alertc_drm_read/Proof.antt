@@ -1,9 +1,6 @@
 -- By the size, and then by what is read.
-use mathlib.Core.Path.{_≡_, refl, sym, ap, ap₂, _∙_}
-use native.Mathlib.Omega.{arith}
-use Prim.Native.Nat.{ℕ, _≤_}
-use mathlib.Core.List.{List, [], _∷_}
-use lib.ListN.{length, length-set}
+use mathlib.Core.Path.{sym, ap, _∙_}
+use lib.ListN.{length}
 use mir.Syntax.{w8}
 use mir.ValLaws.{toZ-ofZ}
 use Rattle.bits.specs.Fields.{flat}

@@ -1,6 +1,5 @@
 -- By the test of the cell.
 use Prim.Native.Nat.{ℕ, zero, suc}
-use native.Mathlib.Omega.{arith}
 use mathlib.Core.Path.{_≡_, refl, sym, ap}
 use Rattle.report.specs.declared.Form.the-variants.{Multi}
 use Rattle.cells.specs.Reports.{formFrom}

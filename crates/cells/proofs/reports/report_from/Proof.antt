@@ -1,5 +1,5 @@
 -- By the test of the ranges.
-use mathlib.Core.Path.{_≡_, refl, sym, ap, _∙_}
+use mathlib.Core.Path.{sym, _∙_}
 use Rattle.bits.proofs.Choice.{chosen, passed-over}
 use Rattle.cells.specs.Reports.{itemLimits, reportLimits, reportFrom}
 use borrow.Author.Needs.{needs}

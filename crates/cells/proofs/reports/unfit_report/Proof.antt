@@ -1,5 +1,5 @@
 -- The places are those of a blank report.
-use mathlib.Core.Path.{_≡_, ap}
+use mathlib.Core.Path.{ap}
 use borrow.Author.Needs.{needs}
 use Rattle.report.specs.declared.Report.{Report}
 use Rattle.report.specs.declared.Form.the-variants.{Single}

@@ -1,9 +1,9 @@
 -- The cells of the places passed stand after the first eight.
-use Prim.Native.Nat.{ℕ, suc, _+_, _-_, _*_, _≤_, _<_}
+use Prim.Native.Nat.{_+_, _-_, _*_, _≤_, _<_}
 use native.Mathlib.Omega.{arith}
-use mathlib.Core.Path.{_≡_, refl, sym, ap, ap₂, _∙_}
-use mathlib.Core.List.{List, [], _++_, append-nil}
-use lib.ListN.{length, take, getD, set, length-set, length-map}
+use mathlib.Core.Path.{_≡_, sym, ap, _∙_}
+use mathlib.Core.List.{List, _++_, append-nil}
+use lib.ListN.{length, take, set, length-set, length-map}
 use lib.Seq.{take-all}
 use borrow.Author.Needs.{needs}
 use Rattle.content.specs.declared.item.Item.{Item}
