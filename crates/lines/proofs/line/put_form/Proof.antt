@@ -1,0 +1,38 @@
+-- A space and then the letter.
+use Prim.Native.Nat.{ℕ}
+use native.Mathlib.Omega.{arith}
+use mathlib.Core.Path.{ap}
+use mathlib.Core.List.{[], _∷_}
+use borrow.Author.Needs.{needs}
+use Rattle.lines.specs.Line.{space, letter}
+use Rattle.lines.proofs.Puts.{put-as, put-then}
+use Rattle.lines.proofs.line.put_form.Statement.{statement}
+use Rattle.lines.proofs.line.put_form.Tie as tie
+use Rattle.lines.proofs.line.put_form.Reads as reads
+use Rattle.lines.proofs.line.put_form.Lts as lts
+use Rattle.lines.proofs.line.letter.Reads as letter-reads
+use Rattle.lines.proofs.text.put_byte.Reads as put-byte-reads
+
+put-byte-requires : tie.Need-put-byte-requires
+put-byte-requires c κs = search needs
+
+letter-requires : tie.Need-letter-requires
+letter-requires c κs = search needs
+
+put-byte-requires-2 : tie.Need-put-byte-requires-2
+put-byte-requires-2 c κs = search needs
+
+same-length : tie.Need-same-length
+same-length c = search needs
+
+returns : tie.Need-returns
+returns c =
+    let a = c .before .before .before .before .before .before .before .before .before .before .args in
+    let first = c .before .before .before .before .before .before .before .put-byte in
+    let last = c .before .before .put-byte2 in
+    let byte = put-as (first .result) (first .last .0) (last .result) (last .last .0) (ap (λ (b : ℕ). b ∷ []) (c .before .before .before .letter .ensures)) (last .ensures) in
+    put-then (a .at) (space ∷ []) (letter (a .form) ∷ []) (a .out .now) (omega (arith, c .before .before .before .before .before .before .before .before .before .before .pre)) (first .ensures) byte
+
+pub put-form-spec : {M : Type 1} → statement M
+put-form-spec =
+    tie.close (tie.spec put-byte-requires letter-requires put-byte-requires-2 same-length returns)
