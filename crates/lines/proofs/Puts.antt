@@ -49,10 +49,10 @@ pub record Left (a : ℕ) (t l rest : List ℕ) (p : ℕ) (m : List ℕ) : Type 
 pub left-all : (a : ℕ) (t l : List ℕ) → Left a t l t a l
 left-all a t l = record { whole = refl; place = refl; same = refl }
 
-pub left-more : (a : ℕ) (t l u rest : List ℕ) (p e : ℕ) (m n : List ℕ) → a + length t ≤ length l → Left a t l (u ++ rest) p m → Put p u m e n → length n ≡ length m → Left a t l rest e n
+pub left-more : (a : ℕ) (t l u rest : List ℕ) (p e : ℕ) (m n : List ℕ) → p ≤ length m → Left a t l (u ++ rest) p m → Put p u m e n → length n ≡ length m → Left a t l rest e n
 left-more a t l u rest p e m n h left q k =
     record {
-      whole = ap₂ (λ (x : ℕ) (y : List ℕ). put x rest y) (q .0) (q .1) ∙ put-append p u rest m (omega (arith, left .place, left .same)) ∙ left .whole;
+      whole = ap₂ (λ (x : ℕ) (y : List ℕ). put x rest y) (q .0) (q .1) ∙ put-append p u rest m h ∙ left .whole;
       place = omega (arith, q .0, left .place, length-append u rest);
       same = k ∙ left .same;
     }

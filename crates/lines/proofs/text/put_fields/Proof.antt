@@ -48,7 +48,7 @@ loop-again c =
     let a = c .before .before .before .before .before .before .before .before .before .args in
     let call = c .before .before .put-field in
     let next = fields-next (a .values .now) (l .i) (c .before .before .before .before .before .loop-test .taken) in
-    (omega arith, left-more (a .at) (fields (a .values .now)) (a .out .now) (space ∷ decimal (getD (a .values .now) (l .i) 0)) _ (l .p) _ (l .out) _ (c .before .before .before .before .before .before .before .before .before .pre) (subst (λ (r : List ℕ). Left (a .at) (fields (a .values .now)) (a .out .now) r (l .p) (l .out)) next (l .inv .1)) (call .ensures) (call .kept .0))
+    (omega arith, left-more (a .at) (fields (a .values .now)) (a .out .now) (space ∷ decimal (getD (a .values .now) (l .i) 0)) _ (l .p) _ (l .out) _ (omega (arith, l .inv .1 .place, l .inv .1 .same, c .before .before .before .before .before .before .before .before .before .pre)) (subst (λ (r : List ℕ). Left (a .at) (fields (a .values .now)) (a .out .now) r (l .p) (l .out)) next (l .inv .1)) (call .ensures) (call .kept .0))
 
 same-length : tie.Need-same-length Inv-loop μ-loop
 same-length c = c .before .loop .inv .1 .same

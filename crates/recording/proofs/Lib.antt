@@ -1,0 +1,3 @@
+pub mod Frames
+pub mod Carrying
+pub mod Turns

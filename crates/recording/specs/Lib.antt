@@ -1,0 +1,4 @@
+pub mod Frame
+pub mod Carried
+pub mod Session
+pub mod Listing
