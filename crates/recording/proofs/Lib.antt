@@ -1,3 +1,5 @@
+pub mod Lines
+pub mod Going
 pub mod Frames
 pub mod Carrying
 pub mod Turns

@@ -1,5 +1,8 @@
 -- The whole listing (document 01, "The listing program").
-use Prim.Native.Nat.{ℕ, zero, suc, _+_, _*_}
+use Prim.Native.Nat.{ℕ, zero, suc, _+_, _*_, _≤_, _<_}
+use mathlib.Core.Path.{_≡_}
+use mathlib.Core.Logic.{_⊎_}
+use mathlib.Core.Bool.{Bool, true, false, cond}
 use mathlib.Core.List.{List, [], _++_}
 use lib.ListN.{length, take, drop}
 use Rattle.lines.specs.Line.{header, refusalLine, room}
@@ -7,9 +10,67 @@ use Rattle.recording.specs.Carried.{mostWords}
 use Rattle.recording.specs.Frame.{frameOf}
 use Rattle.recording.specs.Session.{start, next, afterRecord, recordText}
 use Rattle.recording.specs.declared.Session.{Session}
+use Rattle.recording.specs.declared.Progress.{Progress}
 use Rattle.recording.specs.declared.Frame.{Frame}
 use Rattle.recording.specs.declared.Frame.the-variants.{End, Part, Bad, Whole}
+
+-- the kind and body of a record of n bytes after its length
+abbrev pub recordIn : ℕ → List ℕ → List ℕ
+recordIn n input = take n (drop 2 input)
+
+-- by what the input begins with: a whole record prints its lines and the rest follows; a cut record and a length that no record has
+-- print refusal 1 and end
+unfoldable pub fromFrame : (Session → List ℕ → List ℕ) → Session → List ℕ → Frame → List ℕ
+fromFrame rest s input End = []
+fromFrame rest s input Part = refusalLine (next (s .records)) 1
+fromFrame rest s input Bad = refusalLine (next (s .records)) 1
+fromFrame rest s input (Whole n) = recordText s (recordIn n input) ++ rest (afterRecord s (recordIn n input)) (drop (2 + n) input)
+
+-- the lines of an input, by a bound on its records that no input meets
+unfoldable pub linesBy : ℕ → Session → List ℕ → List ℕ
+linesBy zero s input = []
+linesBy (suc more) s input = fromFrame (linesBy more) s input (frameOf input)
+
+-- to be read by its law, `lines-law` in proofs/Lines.antt: linesFrom s input ≡ fromFrame linesFrom s input (frameOf input)
+unfoldable pub linesFrom : Session → List ℕ → List ℕ
+linesFrom s input = linesBy (suc (length input)) s input
+
+-- what is printed for a whole input: the header always, and then the lines
+unfoldable pub listing : List ℕ → List ℕ
+listing input = header ++ linesFrom start input
 
 -- the most text that a record gives
 abbrev pub recordRoom : ℕ
 recordRoom = mostWords * room
+
+-- whether a record is whole
+unfoldable pub whole : Frame → Bool
+whole End = false
+whole Part = false
+whole Bad = false
+whole (Whole n) = true
+
+-- whether bytes that begin so, the last ones or not, end the listing, and whether they print refusal 1
+unfoldable pub endedAt : Frame → Bool → Bool
+endedAt End last = last
+endedAt Part last = last
+endedAt Bad last = true
+endedAt (Whole n) last = false
+
+unfoldable pub refusedAt : Frame → Bool → Bool
+refusedAt End last = false
+refusedAt Part last = last
+refusedAt Bad last = true
+refusedAt (Whole n) last = false
+
+-- the lines that are left after a call
+abbrev pub linesLeft : Bool → Session → List ℕ → List ℕ
+linesLeft ended s input = cond ended [] (linesFrom s input)
+
+-- a call got so far with the bytes at hand, the last ones of the input or not. What it wrote and what is left to list make up the
+-- listing, whatever bytes may follow. It stops only for want of room or of bytes
+pub record Listed (s : Session) (input : List ℕ) (last : Bool) (out : List ℕ) (p : Progress) (out′ : List ℕ) : Type 0 where
+  pub within : (p .taken ≤ length input) × (p .written ≤ length out′)
+  pub others : drop (p .written) out′ ≡ drop (p .written) out
+  pub text : (rest : List ℕ) → (last ≡ true → rest ≡ []) → linesFrom s (input ++ rest) ≡ take (p .written) out′ ++ linesLeft (p .ended) (p .session) (drop (p .taken) input ++ rest)
+  pub far : p .ended ≡ false → (length out < p .written + recordRoom) ⊎ ((last ≡ false) × (whole (frameOf (drop (p .taken) input)) ≡ false))

@@ -119,7 +119,7 @@ fn counted(answer: Answer, reports: u64) -> u64
 }
 
 // The next number.
-fn next(n: u64) -> u64
+pub(crate) fn next(n: u64) -> u64
     ensures { λ r. ⌜ r ≡ Session·next n ⌝ }
 {
     std::num::wrapping_add_u64(n, 1)
