@@ -1,0 +1,191 @@
+//! Multi-group content: items of a 4-bit label and a value.
+
+use crate::word::CONTENT_BITS;
+use crate::{require, Refusal};
+
+/// The most later groups, and so the most parts of a content.
+pub const MOST_PARTS: usize = 4;
+/// The most bits of a content.
+pub const MOST_BITS: u32 = MOST_PARTS as u32 * CONTENT_BITS;
+/// Bits of a label.
+pub const LABEL_BITS: u32 = 4;
+/// The most items.
+pub const MOST_ITEMS: usize = (MOST_BITS / LABEL_BITS) as usize;
+
+/// Bits of the value after labels 0 to 14.
+pub const WIDTHS: [u8; 15] = [3, 3, 5, 5, 5, 8, 8, 8, 8, 11, 16, 16, 16, 16, 0];
+
+/// One item.
+#[derive(Clone, Copy, Debug, Default, PartialEq, Eq)]
+pub struct Item {
+    pub label: u8,
+    pub value: u16,
+}
+
+impl Item {
+    /// Bits of the value; refuses 8 label 15.
+    #[inline]
+    fn width(self) -> Result<u32, Refusal> {
+        match WIDTHS.get(usize::from(self.label)) {
+            Some(&width) => Ok(u32::from(width)),
+            None => Err(Refusal::Label15),
+        }
+    }
+}
+
+/// A list of items; the places from `count` on are zero.
+#[derive(Clone, Copy, Debug, PartialEq, Eq)]
+pub struct Items {
+    pub count: u8,
+    pub places: [Item; MOST_ITEMS],
+}
+
+impl Items {
+    /// No items.
+    pub const NONE: Self = Self {
+        count: 0,
+        places: [Item { label: 0, value: 0 }; MOST_ITEMS],
+    };
+
+    /// The items.
+    #[inline]
+    pub fn as_slice(&self) -> &[Item] {
+        &self.places[..usize::from(self.count)]
+    }
+}
+
+/// Content bits: `parts` times 28 bits from the top of `bits`, zero below.
+#[derive(Clone, Copy, Debug, PartialEq, Eq)]
+pub struct Content {
+    pub parts: u8,
+    pub bits: u128,
+}
+
+impl Content {
+    /// The content of later groups; refuses 1 none or more than four, 9 a part too large.
+    #[inline]
+    pub fn join(parts: &[u32]) -> Result<Self, Refusal> {
+        require((1..=MOST_PARTS).contains(&parts.len()), Refusal::Length)?;
+        let fit = parts.iter().all(|&part| part < 1 << CONTENT_BITS);
+        require(fit, Refusal::Unfit)?;
+        let mut content = Self { parts: 0, bits: 0 };
+        for &part in parts {
+            content.push(part);
+        }
+        Ok(content)
+    }
+
+    /// Adds the content of one more later group.
+    #[inline]
+    fn push(&mut self, part: u32) {
+        self.bits |= u128::from(part) << (128 - CONTENT_BITS * (u32::from(self.parts) + 1));
+        self.parts += 1;
+    }
+
+    /// The content of later group `i`, from 0.
+    #[inline]
+    pub const fn part(self, i: u8) -> u32 {
+        (self.bits << (CONTENT_BITS * i as u32) >> (128 - CONTENT_BITS)) as u32
+    }
+
+    /// Reads the items; refuses 7 what does not fit, 8 label 15.
+    #[inline]
+    pub fn read(self) -> Result<Items, Refusal> {
+        let mut items = Items::NONE;
+        let mut bits = self.bits;
+        let mut left = u32::from(self.parts) * CONTENT_BITS;
+        while bits != 0 {
+            require(left >= LABEL_BITS, Refusal::Content)?;
+            let mut item = Item {
+                label: (bits >> (128 - LABEL_BITS)) as u8,
+                value: 0,
+            };
+            let width = item.width()?;
+            require(left >= LABEL_BITS + width, Refusal::Content)?;
+            // The label and up to 16 bits of value are the top of 32 bits.
+            let top = (bits >> 96) as u32 & ((1 << (32 - LABEL_BITS)) - 1);
+            item.value = (top >> (32 - LABEL_BITS - width)) as u16;
+            items.places[usize::from(items.count)] = item;
+            items.count += 1;
+            bits <<= LABEL_BITS + width;
+            left -= LABEL_BITS + width;
+        }
+        Ok(items)
+    }
+
+    /// Writes items in the fewest parts, at least one. Refuses 9 label 15, a value out of its
+    /// range, over 112 bits, a last item (0, 0), more places than there are and unused places
+    /// that are not zero.
+    #[inline]
+    pub fn write(items: &Items) -> Result<Self, Refusal> {
+        let count = usize::from(items.count);
+        require(count <= MOST_ITEMS, Refusal::Unfit)?;
+        let (used, unused) = items.places.split_at(count);
+        let blank = Item::default();
+        let fit = used.last() != Some(&blank) && unused.iter().all(|place| *place == blank);
+        require(fit, Refusal::Unfit)?;
+        let mut bits = 0u128;
+        let mut length = 0;
+        for item in used {
+            let width = item.width().map_err(|_| Refusal::Unfit)?;
+            let fit =
+                u32::from(item.value) < 1 << width && length + LABEL_BITS + width <= MOST_BITS;
+            require(fit, Refusal::Unfit)?;
+            length += LABEL_BITS + width;
+            let code = u128::from(item.label) << width | u128::from(item.value);
+            bits |= code << (128 - length);
+        }
+        Ok(Self {
+            parts: length.div_ceil(CONTENT_BITS).max(1) as u8,
+            bits,
+        })
+    }
+}
+
+#[cfg(test)]
+mod tests {
+    use super::*;
+
+    fn read(parts: &[u32]) -> Result<Vec<(u8, u16)>, Refusal> {
+        let items = Content::join(parts)?.read()?;
+        Ok(items
+            .as_slice()
+            .iter()
+            .map(|item| (item.label, item.value))
+            .collect())
+    }
+
+    #[test]
+    fn worked_contents() {
+        assert_eq!(read(&[0x350_2000]), Ok(vec![(3, 10), (0, 2)]));
+        assert_eq!(read(&[0]), Ok(vec![]));
+        assert_eq!(read(&[0; 4]), Ok(vec![]));
+        assert_eq!(read(&[0xFFF_FFFF]), Err(Refusal::Label15));
+    }
+
+    #[test]
+    fn lengths() {
+        assert_eq!(read(&[]), Err(Refusal::Length));
+        assert_eq!(read(&[0; 5]), Err(Refusal::Length));
+    }
+
+    #[test]
+    fn what_does_not_fit() {
+        // Six separators and then label 10 with no room for its value.
+        assert_eq!(read(&[0xEEE_EEEA]), Err(Refusal::Content));
+        // 25 bits of items, then three bits that are not all zero.
+        let items = 0b0010_00000_0011_00000_0001_000_000;
+        assert_eq!(read(&[items]), Ok(vec![(2, 0), (3, 0), (1, 0)]));
+        assert_eq!(read(&[items | 1]), Err(Refusal::Content));
+    }
+
+    #[test]
+    fn most_items() {
+        assert_eq!(read(&[0xEEE_EEEE; 4]), Ok(vec![(14, 0); MOST_ITEMS]));
+    }
+
+    #[test]
+    fn a_zero_item_in_the_middle_is_an_item() {
+        assert_eq!(read(&[0x01_C000]), Ok(vec![(0, 0), (0, 7)]));
+    }
+}

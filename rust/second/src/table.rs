@@ -1,0 +1,534 @@
+//! The message table: 1 to 1,024 records of 32 lent bytes.
+
+use crate::clock::{self, Utc};
+use crate::content::Content;
+use crate::report::Report;
+use crate::word::{Head, CONTENT_BITS};
+use crate::{require, Refusal};
+
+/// Bytes of a record.
+pub const RECORD: usize = 32;
+/// The most records of a table.
+pub const MOST_RECORDS: usize = 1024;
+/// Entries of a catalogue.
+pub const EVENTS: usize = 2048;
+/// Lives: one for each duration of each duration type.
+pub const LIVES: usize = 16;
+/// The longest life in minutes.
+pub const LONGEST_LIFE: u16 = 10_080;
+/// Locations from here on are foreign.
+pub const FOREIGN: u16 = 0xFC00;
+
+type Record = [u8; RECORD];
+
+const FREE: Record = [0; RECORD];
+
+// Places in a record.
+const GROUPS: usize = 1;
+const SID: usize = 2;
+const LTN: usize = 3;
+const LOCATION: usize = 4;
+const EVENT: usize = 6;
+const DIRECTION: usize = 8;
+const EXTENT: usize = 9;
+const DIVERSION: usize = 10;
+const DURATION: usize = 11;
+const EXPIRY: usize = 12;
+const CONTENT: usize = 16;
+const CLASS: usize = 30;
+const COUNTRY: usize = 31;
+
+/// The bits that are zero in bytes 2 to 11 of every record.
+const ZERO_BITS: u128 = u128::from_le_bytes([
+    0, 0, 0xC0, 0xC0, 0, 0, 0, 0xF8, 0xFE, 0xF8, 0xFE, 0xF8, 0, 0, 0, 0,
+]);
+/// The bits of the first half that two matching records share: use, service, location, direction.
+const MATCH_BITS: u128 = u128::from_le_bytes([
+    0xFF, 0, 0xFF, 0xFF, 0xFF, 0xFF, 0, 0, 0xFF, 0, 0, 0, 0, 0, 0, 0,
+]);
+/// The bits that are zero in the second half (first byte highest) of a record of so many
+/// groups: the content after its 28 bits a later group, and the tops of class and country.
+const ZERO_TAIL: [u128; 6] = {
+    let mut bits = [u128::MAX; 6];
+    let mut groups = 1;
+    while groups <= 5 {
+        let content = 112 - CONTENT_BITS * (groups as u32 - 1);
+        bits[groups] = ((1 << content) - 1) << 16 | 0xC0F0;
+        groups += 1;
+    }
+    bits
+};
+
+/// A service.
+#[derive(Clone, Copy, Debug, PartialEq, Eq)]
+pub struct Service {
+    pub country: u8,
+    pub ltn: u8,
+    pub sid: u8,
+}
+
+impl Service {
+    /// Whether every field is in its range.
+    const fn fits(self) -> bool {
+        self.country <= 15 && self.ltn <= 63 && self.sid <= 63
+    }
+}
+
+/// A used record, read.
+#[derive(Clone, Copy, Debug, PartialEq, Eq)]
+pub struct Entry {
+    pub report: Report,
+    pub service: Service,
+    pub expiry: u32,
+}
+
+/// What stands beside the table: the events' classes and kinds, and the lives.
+#[derive(Clone, Copy, Debug)]
+pub struct Lists<'a> {
+    pub catalogue: &'a [u16],
+    pub lives: &'a [u16],
+}
+
+/// A report as it comes in.
+#[derive(Clone, Copy, Debug)]
+pub struct Arrival<'a> {
+    pub report: &'a Report,
+    pub service: Service,
+    pub lto: i8,
+    pub minute: Utc,
+}
+
+/// What taking a report did.
+#[derive(Clone, Copy, Debug, PartialEq, Eq)]
+pub struct Taken {
+    pub expired: usize,
+    pub matched: usize,
+    /// The record's number, if the report was stored.
+    pub place: Option<usize>,
+}
+
+/// The kind of an event in the catalogue.
+#[derive(Clone, Copy, Debug, PartialEq, Eq)]
+enum Kind {
+    Unknown,
+    Ordinary,
+    Cancelling,
+    Null,
+}
+
+/// An entry of the catalogue.
+#[derive(Clone, Copy)]
+struct Event(u16);
+
+impl Event {
+    const fn class(self) -> u8 {
+        self.0 as u8 & 63
+    }
+
+    const fn kind(self) -> Kind {
+        match self.0 >> 6 & 3 {
+            0 => Kind::Unknown,
+            1 => Kind::Ordinary,
+            2 => Kind::Cancelling,
+            _ => Kind::Null,
+        }
+    }
+
+    const fn duration_type(self) -> u8 {
+        (self.0 >> 8) as u8 & 1
+    }
+
+    /// Whether the rest is 0, and the class is 0 exactly if the kind is 0 or 3.
+    #[inline]
+    const fn fits(self) -> bool {
+        let low = self.0 >> 6 & 1;
+        let high = self.0 >> 7 & 1;
+        (self.0 < 1 << 9) & ((self.0 & 63 == 0) == (low == high))
+    }
+}
+
+impl Lists<'_> {
+    /// Whether both are well-formed, their sizes included.
+    #[inline]
+    fn fit(&self) -> bool {
+        let fits = |fit, &entry: &u16| fit & Event(entry).fits();
+        self.catalogue.len() == EVENTS
+            && self.lives.len() == LIVES
+            && self.catalogue.iter().fold(true, fits)
+            && self.lives.iter().all(|&life| life <= LONGEST_LIFE)
+    }
+}
+
+/// The first half of a record, first byte lowest.
+#[inline]
+fn front(record: &Record) -> u128 {
+    let (front, _) = record.split_at(RECORD / 2);
+    u128::from_le_bytes(front.try_into().unwrap_or_default())
+}
+
+/// The second half of a record, first byte highest.
+#[inline]
+fn tail(record: &Record) -> u128 {
+    let (_, tail) = record.split_at(RECORD / 2);
+    u128::from_be_bytes(tail.try_into().unwrap_or_default())
+}
+
+#[inline]
+fn is_free(record: &Record) -> bool {
+    record[0] == 0
+}
+
+#[inline]
+fn expiry(record: &Record) -> u32 {
+    (front(record) >> (8 * EXPIRY)) as u32
+}
+
+#[inline]
+fn is_well_formed(record: &Record) -> bool {
+    let (front, tail) = (front(record), tail(record));
+    if front as u8 == 0 {
+        return front | tail == 0;
+    }
+    let zero_tail = ZERO_TAIL[usize::from(record[GROUPS]).min(5)];
+    (front as u8 == 1)
+        & (1..=5).contains(&record[GROUPS])
+        & (front & ZERO_BITS == 0)
+        & (expiry(record) != 0)
+        & (tail & zero_tail == 0)
+        & (record[CLASS] != 0)
+}
+
+/// The records of a well-formed table; else 10.
+#[inline]
+fn records(table: &[u8]) -> Result<&[Record], Refusal> {
+    let (records, rest) = table.as_chunks();
+    let fit = rest.is_empty()
+        && (1..=MOST_RECORDS).contains(&records.len())
+        && records.iter().all(is_well_formed);
+    require(fit, Refusal::Malformed)?;
+    Ok(records)
+}
+
+/// Refuses 13 a minute below the last accepted one or too large.
+#[inline]
+fn check_minute(last: Utc, minute: Utc) -> Result<(), Refusal> {
+    require(
+        last <= minute && minute.0 <= clock::LARGEST,
+        Refusal::Minute,
+    )
+}
+
+/// Frees the records whose expiry is at or below `minute`, which becomes the last accepted one,
+/// and gives their number. Refuses 10 a malformed table, 13 the minute.
+#[inline]
+pub fn expire(table: &mut [u8], last: &mut Utc, minute: Utc) -> Result<usize, Refusal> {
+    records(table)?;
+    check_minute(*last, minute)?;
+    *last = minute;
+    let mut expired = 0;
+    for record in table.as_chunks_mut().0 {
+        if !is_free(record) && expiry(record) <= minute.0 {
+            *record = FREE;
+            expired += 1;
+        }
+    }
+    Ok(expired)
+}
+
+/// Takes a report. Refuses, in this order, a malformed table, catalogue or lives (10), an unfit
+/// report, service or offset (9), the minute (13), a foreign location (12), an unknown event (11)
+/// and a lack of room (14).
+#[inline]
+pub fn take(
+    table: &mut [u8],
+    lists: Lists,
+    last: &mut Utc,
+    arrival: Arrival,
+) -> Result<Taken, Refusal> {
+    records(table)?;
+    require(lists.fit(), Refusal::Malformed)?;
+    let Arrival {
+        report,
+        service,
+        lto,
+        minute,
+    } = arrival;
+    let (groups, content) = report.pack()?;
+    let fit = service.fits() && lto.unsigned_abs() <= clock::LARGEST_LTO;
+    require(fit, Refusal::Unfit)?;
+    check_minute(*last, minute)?;
+    require(report.head.location < FOREIGN, Refusal::Foreign)?;
+    let event = Event(lists.catalogue[usize::from(report.head.event)]);
+    let kind = event.kind();
+    require(kind != Kind::Unknown, Refusal::UnknownEvent)?;
+
+    let life = lists.lives[usize::from(8 * event.duration_type() + report.duration)];
+    let entry = Entry {
+        report: *report,
+        service,
+        expiry: minute.expiry(lto, life) as u32,
+    };
+    let new = entry.write(groups, content, event.class());
+    let (new_front, new_tail) = (front(&new) & MATCH_BITS, tail(&new) as u16);
+    let matches = |record: &Record| {
+        kind != Kind::Null
+            && front(record) & MATCH_BITS == new_front
+            && tail(record) as u16 == new_tail
+    };
+
+    // With no record free at the end none was freed, so refusal 14 finds the table as it was.
+    let mut taken = Taken {
+        expired: 0,
+        matched: 0,
+        place: None,
+    };
+    let records = table.as_chunks_mut().0;
+    for (i, record) in records.iter_mut().enumerate() {
+        if !is_free(record) {
+            if expiry(record) <= minute.0 {
+                taken.expired += 1;
+            } else if matches(record) {
+                taken.matched += 1;
+            } else {
+                continue;
+            }
+            *record = FREE;
+        }
+        taken.place = taken.place.or(Some(i));
+    }
+    if kind == Kind::Ordinary {
+        records[taken.place.ok_or(Refusal::NoRoom)?] = new;
+    } else {
+        taken.place = None;
+    }
+    *last = minute;
+    Ok(taken)
+}
+
+/// Reads record `i`, `None` if it is free. Refuses 10 a malformed table, 9 a place past the last
+/// record, 7 or 8 content that does not read as items.
+#[inline]
+pub fn read(table: &[u8], i: usize) -> Result<Option<Entry>, Refusal> {
+    let record = records(table)?.get(i).ok_or(Refusal::Unfit)?;
+    if is_free(record) {
+        return Ok(None);
+    }
+    let number = |at: usize| u16::from_le_bytes([record[at], record[at + 1]]);
+    let head = Head {
+        direction: record[DIRECTION],
+        extent: record[EXTENT],
+        event: number(EVENT),
+        location: number(LOCATION),
+    };
+    let mut report = Report::single(record[DURATION], record[DIVERSION], head);
+    if record[GROUPS] > 1 {
+        let content = Content {
+            parts: record[GROUPS] - 1,
+            bits: tail(record) >> 16 << 16,
+        };
+        report.multi = true;
+        report.items = content.read()?;
+    }
+    Ok(Some(Entry {
+        report,
+        service: Service {
+            country: record[COUNTRY],
+            ltn: record[LTN],
+            sid: record[SID],
+        },
+        expiry: expiry(record),
+    }))
+}
+
+impl Entry {
+    /// The record of an entry that fits.
+    #[inline]
+    fn write(&self, groups: u8, content: Content, class: u8) -> Record {
+        let head = self.report.head;
+        let mut record = FREE;
+        record[0] = 1;
+        record[GROUPS] = groups;
+        record[SID] = self.service.sid;
+        record[LTN] = self.service.ltn;
+        record[LOCATION..EVENT].copy_from_slice(&head.location.to_le_bytes());
+        record[EVENT..DIRECTION].copy_from_slice(&head.event.to_le_bytes());
+        record[DIRECTION] = head.direction;
+        record[EXTENT] = head.extent;
+        record[DIVERSION] = self.report.diversion;
+        record[DURATION] = self.report.duration;
+        record[EXPIRY..CONTENT].copy_from_slice(&self.expiry.to_le_bytes());
+        record[CONTENT..].copy_from_slice(&content.bits.to_be_bytes());
+        record[CLASS] = class;
+        record[COUNTRY] = self.service.country;
+        record
+    }
+}
+
+#[cfg(test)]
+mod tests {
+    use super::*;
+
+    const SERVICE: Service = Service {
+        country: 13,
+        ltn: 17,
+        sid: 3,
+    };
+    /// Event 101: ordinary of class 5; 102: cancelling of class 5; 103: null; 104: of class 6.
+    fn catalogue() -> [u16; EVENTS] {
+        let mut catalogue = [0; EVENTS];
+        catalogue[101] = 1 << 6 | 5;
+        catalogue[102] = 2 << 6 | 5;
+        catalogue[103] = 3 << 6;
+        catalogue[104] = 1 << 8 | 1 << 6 | 6;
+        catalogue
+    }
+
+    struct Bench {
+        table: Vec<u8>,
+        catalogue: [u16; EVENTS],
+        lives: [u16; LIVES],
+        last: Utc,
+    }
+
+    impl Bench {
+        fn new(records: usize) -> Self {
+            let mut lives = [60; LIVES];
+            lives[0] = 0;
+            Self {
+                table: vec![0; RECORD * records],
+                catalogue: catalogue(),
+                lives,
+                last: Utc(0),
+            }
+        }
+
+        fn take(&mut self, event: u16, location: u16, minute: u32) -> Result<Taken, Refusal> {
+            let head = Head {
+                direction: 1,
+                extent: 2,
+                event,
+                location,
+            };
+            let report = Report::single(1, 0, head);
+            let arrival = Arrival {
+                report: &report,
+                service: SERVICE,
+                lto: 0,
+                minute: Utc(minute),
+            };
+            let lists = Lists {
+                catalogue: &self.catalogue,
+                lives: &self.lives,
+            };
+            let before = (self.table.clone(), self.last);
+            let taken = take(&mut self.table, lists, &mut self.last, arrival);
+            if taken.is_err() {
+                assert_eq!((self.table.clone(), self.last), before);
+            }
+            taken
+        }
+    }
+
+    fn stored(expired: usize, matched: usize, place: usize) -> Result<Taken, Refusal> {
+        Ok(Taken {
+            expired,
+            matched,
+            place: Some(place),
+        })
+    }
+
+    #[test]
+    fn expiry_at_its_minute() {
+        let mut bench = Bench::new(2);
+        assert_eq!(bench.take(101, 1, 40), stored(0, 0, 0));
+        assert_eq!(read(&bench.table, 0).unwrap().unwrap().expiry, 100);
+        let Bench { table, last, .. } = &mut bench;
+        assert_eq!(expire(table, last, Utc(99)), Ok(0));
+        assert_eq!(expire(table, last, Utc(98)), Err(Refusal::Minute));
+        assert_eq!(expire(table, last, Utc(100)), Ok(1));
+        assert_eq!(read(table, 0), Ok(None));
+        assert_eq!(read(table, 2), Err(Refusal::Unfit));
+        let far = Utc(clock::LARGEST + 1);
+        assert_eq!(expire(table, last, far), Err(Refusal::Minute));
+    }
+
+    #[test]
+    fn foreign_locations() {
+        let mut bench = Bench::new(1);
+        assert_eq!(bench.take(101, 0xFC00, 0), Err(Refusal::Foreign));
+        assert_eq!(bench.take(101, 0xFBFF, 0), stored(0, 0, 0));
+    }
+
+    #[test]
+    fn every_matching_record_goes() {
+        let mut bench = Bench::new(4);
+        assert_eq!(bench.take(101, 1, 1), stored(0, 0, 0));
+        assert_eq!(bench.take(104, 1, 1), stored(0, 0, 1));
+        let (first, rest) = bench.table.split_at_mut(64);
+        rest[..32].copy_from_slice(&first[..32]);
+        assert_eq!(bench.take(101, 2, 1), stored(0, 0, 3));
+        assert_eq!(bench.take(101, 3, 1), Err(Refusal::NoRoom));
+        assert_eq!(bench.take(101, 1, 2), stored(0, 2, 0));
+        let freed = |expired, matched| {
+            Ok(Taken {
+                expired,
+                matched,
+                place: None,
+            })
+        };
+        assert_eq!(bench.take(103, 1, 2), freed(0, 0));
+        assert_eq!(bench.take(102, 1, 2), freed(0, 1));
+        assert_eq!(bench.take(103, 1, 61), freed(2, 0));
+        assert_eq!(bench.table, [0; 128]);
+    }
+
+    #[test]
+    fn order_of_refusals() {
+        let mut bench = Bench::new(1);
+        assert_eq!(bench.take(100, 1, 0), Err(Refusal::UnknownEvent));
+        assert_eq!(bench.take(100, 0xFFFF, 0), Err(Refusal::Foreign));
+        bench.last = Utc(1);
+        assert_eq!(bench.take(100, 0xFFFF, 0), Err(Refusal::Minute));
+        assert_eq!(bench.take(2048, 0xFFFF, 0), Err(Refusal::Unfit));
+        bench.lives[3] = 10_081;
+        assert_eq!(bench.take(2048, 0xFFFF, 0), Err(Refusal::Malformed));
+    }
+
+    #[test]
+    fn malformed_tables() {
+        let mut bench = Bench::new(1);
+        assert_eq!(bench.take(101, 1, 40), stored(0, 0, 0));
+        let good = bench.table.clone();
+        let bad = |at: usize, byte: u8| {
+            let mut table = good.clone();
+            table[at] = byte;
+            read(&table, 0) == Err(Refusal::Malformed)
+        };
+        let limits = [
+            (1, 5),
+            (2, 63),
+            (3, 63),
+            (7, 7),
+            (8, 1),
+            (9, 7),
+            (10, 1),
+            (11, 7),
+        ];
+        for (at, most) in limits.into_iter().chain([(30, 63), (31, 15)]) {
+            assert!(!bad(at, most), "{at}");
+            assert!(bad(at, most + 1), "{at}");
+            assert!(bad(at, 255), "{at}");
+        }
+        for at in [0, 1, 12, 30] {
+            assert!(bad(at, 0), "{at}");
+        }
+        for at in 16..30 {
+            assert!(bad(at, 1), "{at}");
+        }
+        assert!(bad(0, 2));
+        for length in [0, 31, 33, 32 * 1025] {
+            assert_eq!(read(&vec![0; length], 0), Err(Refusal::Malformed));
+        }
+        assert_eq!(read(&vec![0; 32 * 1024], 1023), Ok(None));
+    }
+}
