@@ -1,0 +1,148 @@
+//! The two listing programs on recordings.
+
+use std::fs::{self, File};
+use std::path::{Path, PathBuf};
+use std::process::{self, Command, Stdio};
+use std::{env, io};
+
+use crate::sender::{self, Message};
+use crate::tally::{fail, Call};
+use crate::Trial;
+
+/// The two programs.
+pub struct Programs {
+    pub proved: PathBuf,
+    pub second: PathBuf,
+}
+
+fn run(program: &Path, recording: &Path) -> io::Result<(Option<i32>, Vec<u8>)> {
+    let output = Command::new(program)
+        .stdin(File::open(recording)?)
+        .stderr(Stdio::inherit())
+        .output()?;
+    Ok((output.status.code(), output.stdout))
+}
+
+impl Trial {
+    /// A body of a kind, now and then damaged.
+    fn bodies(&mut self, bodies: &mut Vec<(u16, Vec<u8>)>) {
+        let kind = 1 + self.random.below(3) as u16;
+        let mut words = Message::random(&mut self.random).words;
+        if self.random.once_in(5) {
+            words.remove(self.random.place(words.len()));
+        }
+        if self.random.once_in(5) {
+            let at = self.random.place(words.len() + 1);
+            words.insert(at, self.any_word() % (1 << 37));
+        }
+        words.truncate(6);
+        let first = bodies.len();
+        match kind {
+            1 => {
+                for word in words {
+                    let times = self.random.pick(&[2, 2, 2, 2, 1, 3]);
+                    for _ in 0..times {
+                        bodies.push((1, sender::group(0x5201, 0, 9, word)));
+                    }
+                }
+            }
+            2 => {
+                let d1 = u64::from(self.random.once_in(8));
+                words.iter_mut().for_each(|word| {
+                    if d1 == 1 {
+                        *word &= 0xFFFF;
+                    }
+                });
+                if words.is_empty() {
+                    words.push(0);
+                }
+                bodies.push((2, sender::fig(d1, 3, &words)));
+            }
+            _ => {
+                let mut unit = sender::Unit::random(&mut self.random);
+                let more = self.random.place(6);
+                for _ in 0..more {
+                    words.extend(Message::random(&mut self.random).words);
+                }
+                words.truncate(25);
+                unit.words = words;
+                bodies.push((3, sender::checked(unit.bytes(None, 0))));
+            }
+        }
+        for (kind, body) in &mut bodies[first..] {
+            if self.random.once_in(25) {
+                self.damage_bytes(body, 129);
+                body.truncate(128);
+            }
+            if self.random.once_in(60) {
+                *kind = self.random.pick(&[0, 1, 2, 3, 4, 16, 0x0101, 0xFFFF]);
+            }
+        }
+    }
+
+    /// A recording of about so many bytes.
+    pub fn recording(&mut self, size: usize) -> Vec<u8> {
+        let mut recording = Vec::new();
+        let mut bodies = Vec::new();
+        while recording.len() < size {
+            bodies.clear();
+            self.bodies(&mut bodies);
+            for (kind, body) in &bodies {
+                recording.extend((body.len() as u16 + 2).to_le_bytes());
+                recording.extend(kind.to_le_bytes());
+                recording.extend(body);
+            }
+        }
+        recording
+    }
+
+    fn damaged_recording(&mut self, size: usize) -> Vec<u8> {
+        let size = self.random.place(size);
+        let mut recording = self.recording(size);
+        let at = self.random.place(recording.len() + 1);
+        match self.random.below(6) {
+            0 => recording.truncate(at),
+            1 => recording.push(self.random.number() as u8),
+            2 => recording.extend([self.random.pick(&[0, 1, 131, 255]), 0, 1, 0]),
+            3 if at < recording.len() => recording[at] = self.random.number() as u8,
+            4 => recording.extend([130, 1, 1, 0]),
+            _ => {}
+        }
+        recording
+    }
+
+    /// Compares the listings of recordings, from empty ones to large ones.
+    pub fn listings(&mut self, programs: &Programs, count: usize) -> io::Result<()> {
+        let path = env::temp_dir().join(format!("compare-{}.recording", process::id()));
+        for i in 0..count {
+            let recording = match i {
+                0 => vec![],
+                _ if i % 40 == 1 => self.recording(1_000_000),
+                _ => {
+                    let size = self.random.pick(&[40, 400, 4000]);
+                    self.damaged_recording(size)
+                }
+            };
+            fs::write(&path, &recording)?;
+            let proved = run(&programs.proved, &path)?;
+            let second = run(&programs.second, &path)?;
+            if proved != second {
+                let text = |(status, listing): &(Option<i32>, Vec<u8>)| {
+                    (*status, String::from_utf8_lossy(listing).into_owned())
+                };
+                println!("the recording is kept at {}", path.display());
+                let (proved, second) = (text(&proved), text(&second));
+                let differ = proved.1.lines().zip(second.1.lines());
+                let first = differ.enumerate().find(|(_, (a, b))| a != b);
+                fail(
+                    "Listing: first line that differs",
+                    &first,
+                    &proved.0,
+                    &second.0,
+                );
+            }
+            self.tally.count(Call::Listing, 0);
+        }
+        fs::remove_file(&path)
+    }
+}

@@ -1,0 +1,172 @@
+//! What was compared: calls by kind, the refusals each of them gave, and marks on the way.
+
+use std::collections::BTreeMap;
+use std::fmt::Debug;
+use std::process;
+
+/// The calls, each with the refusals that it can give.
+const CALLS: [(Call, &str, &[u8]); 20] = [
+    (Call::WordParse, "word parse", &[9, 15]),
+    (Call::WordCompose, "word compose", &[9, 15]),
+    (Call::SystemRead, "system read", &[2, 15]),
+    (Call::SystemWrite, "system write", &[9, 15]),
+    (Call::RdsRead, "RDS read", &[1, 2, 15]),
+    (Call::RdsWrite, "RDS write", &[9, 15]),
+    (Call::RdsReceive, "RDS receive", &[1, 2, 9, 15]),
+    (Call::ReportWrite, "report write", &[9, 15]),
+    (Call::AssemblerStep, "assembler step", &[5, 6, 7, 8, 9, 15]),
+    (Call::FigRead, "FIG read", &[1, 2, 3, 15]),
+    (Call::FigWrite, "FIG write", &[9, 15]),
+    (Call::DrmRead, "DRM read", &[1, 2, 3, 4, 15]),
+    (Call::DrmWrite, "DRM write", &[9, 15]),
+    (Call::CheckWord, "check word", &[]),
+    (Call::TableTake, "table take", &[9, 10, 11, 12, 13, 14, 15]),
+    (Call::TableExpire, "table expire", &[10, 13]),
+    (Call::TableRead, "table read", &[7, 8, 9, 10, 15]),
+    (Call::Expiry, "expiry", &[]),
+    (Call::Transmission, "transmission", &[]),
+    (Call::Listing, "listing", &[]),
+];
+
+#[derive(Clone, Copy, Debug, PartialEq, Eq, PartialOrd, Ord)]
+pub enum Call {
+    WordParse,
+    WordCompose,
+    SystemRead,
+    SystemWrite,
+    RdsRead,
+    RdsWrite,
+    RdsReceive,
+    ReportWrite,
+    AssemblerStep,
+    FigRead,
+    FigWrite,
+    DrmRead,
+    DrmWrite,
+    CheckWord,
+    TableTake,
+    TableExpire,
+    TableRead,
+    Expiry,
+    Transmission,
+    Listing,
+}
+
+impl Call {
+    /// Whether a refusal may change what was lent.
+    fn changes(self, refusal: u8) -> bool {
+        self == Self::AssemblerStep && matches!(refusal, 5 | 7 | 8)
+    }
+}
+
+#[derive(Default)]
+pub struct Tally {
+    answers: BTreeMap<(Call, u8), u64>,
+    marks: BTreeMap<&'static str, u64>,
+}
+
+/// Prints a difference and ends.
+pub fn fail(what: &str, input: &dyn Debug, left: &dyn Debug, right: &dyn Debug) -> ! {
+    println!("DIFFERENCE: {what}");
+    println!("input: {input:x?}");
+    println!("one:   {left:x?}");
+    println!("other: {right:x?}");
+    process::exit(1)
+}
+
+impl Tally {
+    /// Compares the two programs' answers to one call: the number returned and what was lent. A
+    /// refusal must leave what was lent as at entry.
+    pub fn agree<T: PartialEq + Debug>(
+        &mut self,
+        call: Call,
+        input: &dyn Debug,
+        entry: &T,
+        proved: (u8, &T),
+        second: (u8, &T),
+    ) {
+        if proved != second {
+            fail(
+                &format!("{call:?}: proved, second"),
+                input,
+                &proved,
+                &second,
+            );
+        }
+        let (refusal, exit) = proved;
+        if refusal != 0 && !call.changes(refusal) && exit != entry {
+            fail(
+                &format!("{call:?}: refusal {refusal} changed what was lent"),
+                input,
+                entry,
+                exit,
+            );
+        }
+        self.count(call, refusal);
+    }
+
+    /// Compares the proved answer with what the sender meant.
+    pub fn expect<T: PartialEq + Debug>(&self, call: Call, input: &dyn Debug, found: T, meant: T) {
+        if found != meant {
+            fail(&format!("{call:?}: answered, sent"), input, &found, &meant);
+        }
+    }
+
+    pub fn count(&mut self, call: Call, refusal: u8) {
+        *self.answers.entry((call, refusal)).or_default() += 1;
+    }
+
+    /// Counts that something happened which a run must reach.
+    pub fn mark(&mut self, mark: &'static str, happened: bool) {
+        *self.marks.entry(mark).or_default() += u64::from(happened);
+    }
+
+    fn calls(&self, call: Call) -> u64 {
+        let of_call = self.answers.iter().filter(|((of, _), _)| *of == call);
+        of_call.map(|(_, count)| count).sum()
+    }
+
+    /// The answers and marks, one line each.
+    pub fn print(&self) {
+        for (call, name, _) in CALLS {
+            let answers: Vec<_> = self
+                .answers
+                .iter()
+                .filter(|((of, _), _)| *of == call)
+                .map(|((_, refusal), count)| format!("{refusal}: {count}"))
+                .collect();
+            println!("{name:15} {}", answers.join(", "));
+        }
+        for (mark, count) in &self.marks {
+            println!("{mark}: {count}");
+        }
+    }
+
+    /// What a run must reach and this one did not.
+    pub fn missing(&self, listings: bool) -> Vec<String> {
+        let mut missing = Vec::new();
+        for (call, name, refusals) in CALLS {
+            if call == Call::Listing && !listings {
+                continue;
+            }
+            for refusal in refusals.iter().chain(&[0]) {
+                if !self.answers.contains_key(&(call, *refusal)) {
+                    missing.push(format!("{name}: {refusal}"));
+                }
+            }
+        }
+        let marks = self.marks.iter().filter(|(_, &count)| count == 0);
+        missing.extend(marks.map(|(mark, _)| mark.to_string()));
+        missing
+    }
+
+    /// The last line: how many calls were compared.
+    pub fn summary(&self) -> String {
+        let counts: Vec<_> = CALLS
+            .iter()
+            .map(|&(call, name, _)| format!("{name} {}", self.calls(call)))
+            .collect();
+        let all: u64 = self.answers.values().sum();
+        format!("compared {all} calls: {}", counts.join(", "))
+    }
+}
