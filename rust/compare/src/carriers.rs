@@ -160,7 +160,7 @@ impl Trial {
                 group[at] ^= 1 << random.below(8);
             }
             1 => group[2] ^= 1 << (3 + random.below(5)),
-            2 => group.resize(random.place(11), 0x80),
+            2 => group.resize(random.pick(&[0, 1, 7, 9, 16, 264]), 0x80),
             3 => group
                 .iter_mut()
                 .for_each(|byte| *byte = random.number() as u8),
@@ -235,6 +235,10 @@ impl Trial {
     pub fn damage_bytes(&mut self, bytes: &mut Vec<u8>, most: usize) {
         let random = &mut self.random;
         let at = random.place(bytes.len().max(1));
+        if random.once_in(20) {
+            // A length that is right but for a carry.
+            bytes.resize(bytes.len() + random.pick(&[256, 65_536]), 0);
+        }
         match random.below(6) {
             0 => bytes.truncate(at),
             1 => bytes.resize(random.place(most), 0),
@@ -308,7 +312,7 @@ impl Trial {
         let most = if d1 == 0 { 6 } else { 14 };
         let count = match self.random.below(12) {
             0 => 0,
-            1 => most + 1 + self.random.place(20),
+            1 => most + 1 + self.random.pick(&[0, 1, 20, 254]),
             _ => 1 + self.random.place(most),
         };
         let width = if d1 == 0 { 37 } else { 16 };
@@ -441,7 +445,7 @@ impl Trial {
         }
         if random.once_in(3) && !unit.words.is_empty() {
             let at = random.place(unit.words.len());
-            match random.below(6) {
+            match random.below(7) {
                 0 => unit.words.truncate(at),
                 1 => unit.words.insert(at, sender::other_word(random)),
                 2 => {
@@ -453,6 +457,7 @@ impl Trial {
                     unit.words.insert(at, sender::first_word(2, head));
                 }
                 4 => unit.words[at] ^= 1 << random.below(37),
+                5 => unit.words.resize(unit.words.len() + 256, 1 << 36),
                 _ => {
                     unit.words.remove(at);
                 }

@@ -54,7 +54,7 @@ pub fn check_word(bytes: &[u8]) -> u16 {
     for i in 0..8 * bytes.len() {
         let bit = u16::from(bytes[i / 8] >> (7 - i % 8) & 1);
         let carry = register >> 15 ^ bit;
-        register = register << 1 ^ carry * 0x1021;
+        register = (register << 1) ^ (carry * 0x1021);
     }
     !register
 }
@@ -147,17 +147,22 @@ pub fn random_item(random: &mut Random) -> Item {
     )
 }
 
-/// Items that take at most so many bits, the last not (0, 0).
+/// Items that take at most so many bits, often as many as that, the last not (0, 0).
 pub fn random_items(random: &mut Random, most: usize) -> Vec<Item> {
-    let most = random.place(most + 1);
-    let narrow = random.once_in(6);
+    let fewer = random.place(most + 1);
+    let most = random.pick(&[most, fewer]);
+    let separators = random.once_in(8);
     let mut items = Vec::new();
     loop {
-        let item = if narrow { (14, 0) } else { random_item(random) };
-        items.push(item);
-        if length(&items) > most {
-            items.pop();
+        let item = random_item(random);
+        if separators || length(&items) + 4 + width(item) > most {
             break;
+        }
+        items.push(item);
+    }
+    if separators || random.once_in(2) {
+        while length(&items) + 4 <= most {
+            items.push((14, 0));
         }
     }
     while items.last() == Some(&(0, 0)) {

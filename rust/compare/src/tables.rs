@@ -63,7 +63,7 @@ impl Trial {
         let message = Message::random(random);
         let mut groups = message.words.len();
         let mut content: Vec<u64> = message.words[1..].iter().map(|w| w % (1 << 28)).collect();
-        if random.once_in(8) {
+        if random.once_in(4) {
             groups = 1 + random.place(5);
             content = (1..groups).map(|_| random.bits(28)).collect();
         }
