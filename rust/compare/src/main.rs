@@ -52,6 +52,7 @@ impl Trial {
         times(50, Self::check_word);
         times(100, Self::expiry);
         times(20, Self::transmission);
+        times(200, Self::record_byte);
         let lists = self.lists();
         for _ in 0..80 {
             self.table_walk(&lists);

@@ -51,7 +51,11 @@ impl Trial {
             2 => lives.truncate(random.place(17)),
             3 => lives.push(0),
             4 => lives[random.place(16)] = random.pick(&[10_081, 10_080, 0xFFFF]),
-            _ => catalogue[random.place(2048)] = random.number() as u16 >> random.below(8),
+            _ => {
+                let (kind, class) = (random.below(4) as u16, random.pick(&[0, 0, 1, 63]));
+                let rest = random.pick(&[0, 0, 1 << 8, 1 << 9, 1 << 15]);
+                catalogue[random.place(2048)] = rest | kind << 6 | class;
+            }
         }
         Lists { catalogue, lives }
     }
@@ -277,6 +281,21 @@ impl Trial {
         self.tally.mark("read: a multi-group report", multi);
         self.tally
             .mark("read: a free record", proved == 0 && a[0] == 0);
+    }
+
+    /// Reads a record of which one byte or one bit at the end of the content was set.
+    pub fn record_byte(&mut self) {
+        let mut table = self.record(1).to_vec();
+        let random = &mut self.random;
+        if random.once_in(4) {
+            let end = 28 * (u64::from(table[1]) - 1);
+            let bit = (end + random.below(3)).saturating_sub(1).min(111) as usize;
+            table[16 + bit / 8] |= 0x80 >> (bit % 8);
+        } else {
+            let edges = [0, 1, 2, 5, 6, 7, 8, 15, 16, 63, 64, 128, 255];
+            table[random.place(RECORD)] = random.pick(&edges);
+        }
+        self.read(&table);
     }
 
     /// A report that was stored reads back.
