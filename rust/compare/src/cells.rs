@@ -404,7 +404,7 @@ pub fn drm_read(
 pub fn drm_write(unit: &[u64], lto: i8, words: &[u64], out: &mut [u8], count: &mut usize) -> u8 {
     number((|| {
         let &[tmchi, short_id, services, country, ecc, m, ref system @ ..] = cells::<DRM>(unit)?;
-        let m = usize::try_from(m).map_or(usize::MAX, |m| m);
+        let m = usize::try_from(m).unwrap_or(usize::MAX);
         let (system, unused) = system.split_at_checked(m).ok_or(Refusal::Unfit)?;
         blank(unused)?;
         let mut narrowed = [0; 3];
@@ -449,8 +449,9 @@ pub fn table_take(table: &mut [u8], clock: &mut u32, taking: &Taking, answer: &m
             minute: Utc(taking.minute),
         };
         let mut last = Utc(*clock);
-        let taken = table::take(table, lists, &mut last, arrival)?;
+        let taken = table::take(table, lists, &mut last, arrival);
         *clock = last.0;
+        let taken = taken?;
         *answer = [
             taken.expired as u64,
             taken.matched as u64,
@@ -464,8 +465,9 @@ pub fn table_take(table: &mut [u8], clock: &mut u32, taking: &Taking, answer: &m
 pub fn table_expire(table: &mut [u8], clock: &mut u32, minute: u32, expired: &mut usize) -> u8 {
     number((|| {
         let mut last = Utc(*clock);
-        *expired = table::expire(table, &mut last, Utc(minute))?;
+        let freed = table::expire(table, &mut last, Utc(minute));
         *clock = last.0;
+        *expired = freed?;
         Ok(())
     })())
 }
