@@ -139,10 +139,11 @@ impl Trial {
     }
 
     fn minute(&mut self) -> u32 {
-        match self.random.below(5) {
-            0 => 0,
-            1 => LARGEST - self.random.below(3000) as u32,
-            2 => self.random.below(LARGEST.into()) as u32,
+        match self.random.below(20) {
+            0 => LARGEST + self.random.below(3) as u32,
+            1..4 => 0,
+            4..8 => LARGEST - self.random.below(3000) as u32,
+            8..12 => self.random.below(LARGEST.into()) as u32,
             _ => self.random.below(10_000) as u32,
         }
     }
