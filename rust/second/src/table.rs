@@ -320,15 +320,16 @@ pub fn read(table: &[u8], i: usize) -> Result<Option<Entry>, Refusal> {
         event: number(EVENT),
         location: number(LOCATION),
     };
-    let mut report = Report::single(record[DURATION], record[DIVERSION], head);
-    if record[GROUPS] > 1 {
+    let report = if record[GROUPS] > 1 {
+        // A multi-group report's duration and diversion are what its items say.
         let content = Content {
             parts: record[GROUPS] - 1,
             bits: tail(record) >> 16 << 16,
         };
-        report.multi = true;
-        report.items = content.read()?;
-    }
+        Report::multi(head, content)?
+    } else {
+        Report::single(record[DURATION], record[DIVERSION], head)
+    };
     Ok(Some(Entry {
         report,
         service: Service {
