@@ -358,7 +358,7 @@ impl Trial {
             1 => random.below(3000) as u32,
             _ => LARGEST - random.below(3000) as u32,
         };
-        let lto = random.below(63) as i8 - 31;
+        let lto = random.number() as i8;
         let life = match random.below(3) {
             0 => 0,
             _ => random.bits(16) as u16,
