@@ -20,7 +20,7 @@ mod tables;
 mod tally;
 
 const SEED: u64 = 14819;
-const ROUNDS: u64 = 150;
+const ROUNDS: u64 = 300;
 const USAGE: &str = "compare [--seed S] [--rounds N] [--verbose] [--listing PATH --listing2 PATH]";
 
 struct Trial {
