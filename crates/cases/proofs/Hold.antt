@@ -2,6 +2,7 @@
 use mathlib.Core.Path.{_≡_, refl}
 use Rattle.bits.specs.Bits.{bit, num, bits, val, allZero}
 use Rattle.bits.specs.Fields.{flat, words, unpack, pack, fits as inRange}
+use Rattle.bits.specs.Checks.{firstOf, unless}
 use Rattle.word.specs.Format.{headFields, laterFields}
 use Rattle.word.specs.Kind.{kindOf, kindBy, multiBy}
 use Rattle.word.specs.Compose.{isIndex}
@@ -22,7 +23,7 @@ use Rattle.system.specs.Read.{systemOf, systemBy}
 use Rattle.crc.specs.Register.{shifted, entered, checkWord}
 use Rattle.drm.specs.Offset.{ltoOf}
 use Rattle.drm.specs.Payload.{uaFlag, aid, headerBits, wordsAt, unitOf}
-use Rattle.drm.specs.Read.{firstOf, fieldRefusal, wordsRefusal, payloadRefusal, unitRefusal, unless, taken as unitTaken, readUnit}
+use Rattle.drm.specs.Read.{fieldRefusal, wordsRefusal, payloadRefusal, unitRefusal, taken as unitTaken, readUnit}
 use Rattle.clock.specs.Time.{localOf, toMidnight, expiryOf}
 use Rattle.cases.specs.Case.{found, expected, AllHold}
 use Rattle.cases.specs.Cases.{cases}

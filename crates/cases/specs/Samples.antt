@@ -1,16 +1,12 @@
--- The reports, units and bytes that the worked cases speak of (document 01, "Worked words").
-use Prim.Native.Nat.{ℕ}
-use mathlib.Core.List.{List, [], _∷_, _++_}
+-- The reports and units that the worked cases speak of (document 01, "Worked words").
+use mathlib.Core.List.{[], _∷_}
 use lib.IntN.{pos}
-use Rattle.bits.specs.Bits.{bits}
-use Rattle.bits.specs.Fields.{words}
 use Rattle.word.specs.declared.Head.{Head}
 use Rattle.content.specs.Stored.{filled}
 use Rattle.report.specs.declared.Report.{Report}
 use Rattle.report.specs.declared.Form.the-variants.{Single, Multi}
 use Rattle.assembler.specs.declared.Assembler.{Assembler}
 use Rattle.assembler.specs.declared.Assembler.the-variants.{Started}
-use Rattle.crc.specs.Register.{checkWord}
 use Rattle.drm.specs.declared.Unit.{Unit}
 
 -- event 101, location 12345, direction 1, extent 2, diversion 0, duration 3
@@ -46,7 +42,3 @@ opened = Started (record { ci = 2; head = head401; gsi = 0; count = 0; first = 0
 -- a data unit with TMCHI 0 and Short ID 0
 abbrev pub bare : Unit
 bare = record { tmchi = 0; id = 0; services = 0; country = 0; ecc = 0; lto = pos 0; system = 0; first = 0; second = 0; third = 0 }
-
--- some bytes and their check word
-abbrev pub checked : List ℕ → List ℕ
-checked payload = payload ++ words 8 2 (bits 16 (checkWord payload))

@@ -36,9 +36,10 @@ put-as a l e m same p = subst (λ (x : List ℕ). Put a x l e m) same p
 
 -- one text and then another
 pub put-then : (a : ℕ) (t u l : List ℕ) {e f : ℕ} {m n : List ℕ} → a ≤ length l → Put a t l e m → Put e u m f n → Put a (t ++ u) l f n
-put-then a t u l h p q =
-    (q .0 ∙ ap (λ (x : ℕ). x + length u) (p .0) ∙ add-assoc a (length t) (length u) ∙ ap (λ (x : ℕ). a + x) (sym (length-append t u)),
-     q .1 ∙ ap₂ (λ (x : ℕ) (y : List ℕ). put x u y) (p .0) (p .1) ∙ put-append a t u l h)
+put-then a t u l h p q = (
+  q .0 ∙ ap (λ (x : ℕ). x + length u) (p .0) ∙ add-assoc a (length t) (length u) ∙ ap (λ (x : ℕ). a + x) (sym (length-append t u)),
+  q .1 ∙ ap₂ (λ (x : ℕ) (y : List ℕ). put x u y) (p .0) (p .1) ∙ put-append a t u l h,
+)
 
 -- of a text t that goes to a in l, the rest is still to go to p in m
 pub record Left (a : ℕ) (t l rest : List ℕ) (p : ℕ) (m : List ℕ) : Type 0 where

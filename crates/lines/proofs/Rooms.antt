@@ -46,9 +46,9 @@ two-fields a b ha hb = fields-more 21 a (b ∷ []) ha (fields-more 0 b [] hb no-
 pub line-fits : (n a b c d e f g : ℕ) (form : Form) → n < 2 ^ 64 → a < 2 ^ 64 → b < 2 ^ 64 → c < 2 ^ 64 → d < 2 ^ 64 → e < 2 ^ 64 → f < 2 ^ 64 → g < 2 ^ 64 → length (line n form (a ∷ b ∷ c ∷ d ∷ e ∷ f ∷ g ∷ [])) ≤ room
 line-fits n a b c d e f g form hn ha hb hc hd he hf hg =
     let all =
-        fields-more 126 a (b ∷ c ∷ d ∷ e ∷ f ∷ g ∷ []) ha
-        (fields-more 105 b (c ∷ d ∷ e ∷ f ∷ g ∷ []) hb
-        (fields-more 84 c (d ∷ e ∷ f ∷ g ∷ []) hc
-        (fields-more 63 d (e ∷ f ∷ g ∷ []) hd
-        (fields-more 42 e (f ∷ g ∷ []) he (two-fields f g hf hg))))) in
+    fields-more 126 a (b ∷ c ∷ d ∷ e ∷ f ∷ g ∷ []) ha
+    (fields-more 105 b (c ∷ d ∷ e ∷ f ∷ g ∷ []) hb
+    (fields-more 84 c (d ∷ e ∷ f ∷ g ∷ []) hc
+    (fields-more 63 d (e ∷ f ∷ g ∷ []) hd
+    (fields-more 42 e (f ∷ g ∷ []) he (two-fields f g hf hg))))) in
     omega (arith, all, digits-64 n hn, line-length n form (a ∷ b ∷ c ∷ d ∷ e ∷ f ∷ g ∷ []))

@@ -79,9 +79,9 @@ module _ (s : Session) (input : List ℕ) (last : Bool) (out₀ : List ℕ) (now
             λ rest h.
             g .text rest h
             ∙ ap (λ (l : List ℕ). take at out ++ l)
-              (whole-lines now (drop from input) rest n f
-              ∙ ap₂ (λ (x : List ℕ) (y : Session). x ++ linesFrom y (drop (2 + n) (drop from input) ++ rest)) (sym text) (sym session)
-              ∙ ap (λ (l : List ℕ). t ++ linesFrom after (l ++ rest)) (drop-drop (2 + n) from input ∙ ap (λ (k : ℕ). drop k input) (sums from n)))
+            (whole-lines now (drop from input) rest n f
+            ∙ ap₂ (λ (x : List ℕ) (y : Session). x ++ linesFrom y (drop (2 + n) (drop from input) ++ rest)) (sym text) (sym session)
+            ∙ ap (λ (l : List ℕ). t ++ linesFrom after (l ++ rest)) (drop-drop (2 + n) from input ∙ ap (λ (k : ℕ). drop k input) (sums from n)))
             ∙ sym (append-assoc (take at out) t (linesFrom after (drop (from + 2 + n) input ++ rest)))
             ∙ ap (λ (l : List ℕ). l ++ linesFrom after (drop (from + 2 + n) input ++ rest)) (sym front);
       }
@@ -96,8 +96,8 @@ module _ (s : Session) (input : List ℕ) (last : Bool) (out₀ : List ℕ) (now
             λ rest h.
             g .text rest h
             ∙ ap (λ (l : List ℕ). take at out ++ l)
-              (end-lines now (drop from input) rest last frame f w h
-              ∙ ap₂ (λ (x : List ℕ) (b : Bool). x ++ linesLeft b now (drop from input ++ rest)) (sym text) (sym is))
+            (end-lines now (drop from input) rest last frame f w h
+            ∙ ap₂ (λ (x : List ℕ) (b : Bool). x ++ linesLeft b now (drop from input ++ rest)) (sym text) (sym is))
             ∙ sym (append-assoc (take at out) t (linesLeft ended now (drop from input ++ rest)))
             ∙ ap (λ (l : List ℕ). l ++ linesLeft ended now (drop from input ++ rest)) (sym front);
         far = λ open′. inr (waits last frame w (sym is ∙ open′), ap whole f ∙ w);

@@ -102,7 +102,7 @@ unfolding fromFrame
 whole-lines s l rest n e =
     let there = whole-there l n e in
     let same : recordIn n (l ++ rest) ≡ recordIn n l =
-        ap (take n) (drop-append-le 2 l rest (omega (arith, there))) ∙ take-append-le n (drop 2 l) rest (omega (arith, there, length-drop 2 l)) in
+    ap (take n) (drop-append-le 2 l rest (omega (arith, there))) ∙ take-append-le n (drop 2 l) rest (omega (arith, there, length-drop 2 l)) in
     lines-law s (l ++ rest)
     ∙ ap (fromFrame linesFrom s (l ++ rest)) (whole-more l rest n e)
     ∙ ap₂ (λ (r t : List ℕ). recordText s r ++ linesFrom (afterRecord s r) t) same (drop-append-le (2 + n) l rest (there .1))

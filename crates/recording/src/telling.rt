@@ -126,7 +126,14 @@ pub(crate) fn next(n: u64) -> u64
 }
 
 // Puts the line of an answer, if it has one.
-fn put_answer(out: &mut [u8], at: usize, answer: Answer, report: Report, number: u64, place: u64) -> usize
+fn put_answer(
+    out: &mut [u8],
+    at: usize,
+    answer: Answer,
+    report: Report,
+    number: u64,
+    place: u64,
+) -> usize
     requires { ⌜ at + room ≤ length (now out) ⌝ }
     ensures { λ r. ⌜ Put at (answerText answer report number place) (now (out .entry)) r (now (out .exit)) ⌝ }
     ensures { λ r. ⌜ r ≤ at + room ⌝ }

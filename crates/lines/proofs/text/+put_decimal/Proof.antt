@@ -43,7 +43,7 @@ module _ (t : ℕ) where
   put-byte-requires c κs = omega (arith, c .before .before .before .before .pre .1, ap length (decimal-digit (c .before .before .before .before .args .n) (c .before .before .if1 .taken)))
 
   put-decimal-requires : lts.Need-put-decimal-requires (callees t) (at-measure t) reads.Post
-  put-decimal-requires c κs = 
+  put-decimal-requires c κs =
       let n = c .before .before .before .args .n in
       (omega arith, omega (arith, c .before .before .before .pre .1, ap length (decimal-more n (c .before .if1 .left)), length-append (decimal (n / 10)) (digit (n % 10) ∷ [])))
 
@@ -51,7 +51,7 @@ module _ (t : ℕ) where
   digit-requires-2 c κs = omega arith
 
   put-byte-requires-2 : lts.Need-put-byte-requires-2 (callees t) (at-measure t) reads.Post
-  put-byte-requires-2 c κs = 
+  put-byte-requires-2 c κs =
       let n = c .before .before .before .before .before .before .before .before .args .n in
       let call = c .before .before .before .before .put-decimal in
       omega (arith, c .before .before .before .before .before .before .before .before .pre .1, call .ensures .0, call .kept .0, ap length (decimal-more n (c .before .before .before .before .before .before .if1 .left)), length-append (decimal (n / 10)) (digit (n % 10) ∷ []))

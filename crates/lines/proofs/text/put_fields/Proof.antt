@@ -31,7 +31,7 @@ shared-slice-read-put-field : tie.Need-shared-slice-read-put-field Inv-loop μ-l
 shared-slice-read-put-field c = search needs
 
 put-field-requires : tie.Need-put-field-requires Inv-loop μ-loop
-put-field-requires c κs = 
+put-field-requires c κs =
     let l = c .before .before .before .loop in
     let a = c .before .before .before .before .before .before .args in
     omega (arith, l .inv .1 .place, l .inv .1 .same, c .before .before .before .before .before .before .pre, ap length (fields-next (a .values .now) (l .i) (c .before .before .loop-test .taken)), length-append (space ∷ decimal (getD (a .values .now) (l .i) 0)) (fields (drop (l .i + 1) (a .values .now))))
@@ -43,7 +43,7 @@ loop-less : tie.Need-loop-less Inv-loop μ-loop
 loop-less c = search needs
 
 loop-again : tie.Need-loop-again Inv-loop μ-loop
-loop-again c = 
+loop-again c =
     let l = c .before .before .before .before .before .before .loop in
     let a = c .before .before .before .before .before .before .before .before .before .args in
     let call = c .before .before .put-field in
@@ -55,7 +55,7 @@ same-length c = c .before .loop .inv .1 .same
 
 returns : tie.Need-returns Inv-loop μ-loop
 unfolding fields
-returns c = 
+returns c =
     let l = c .before .loop in
     let a = c .before .before .before .before .args in
     left-none (a .at) (fields (a .values .now)) (a .out .now) _ _ (subst (λ (r : List ℕ). Left (a .at) (fields (a .values .now)) (a .out .now) (fields r) (l .p) (l .out)) (drop-of-length-le (a .values .now) (c .loop-test .left)) (l .inv .1))

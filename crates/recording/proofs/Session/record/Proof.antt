@@ -73,10 +73,13 @@ returns c =
     let carries = sym (ap (λ (x : Carried). held x (rec .last .1 .1 .0)) (told .1)) ∙ rec .ensures .1 .0 in
     let n : told .0 .0 ≤ mostWords = subst (λ (x : Carried). heldCount x ≤ mostWords) (told .1) (rec .ensures .1 .1) in
     let room : length (rec .last .1 .1 .0) ≡ mostWords = omega arith in
-    let taken = length-take-le (told .0 .0) (rec .last .1 .1 .0) (omega (arith, n, room)) in
-    (call .ensures .0 ∙ ap₂ afterCarried begun carries,
-     (put-as (a .at) (a .out .now) _ _ (ap₂ carriedText begun carries) (call .ensures .1 .0),
-      omega (arith, n, taken, call .ensures .1 .1)))
+    let taken = length-take-le (told .0 .0) (rec .last .1 .1 .0) (omega (arith, n, room)) in (
+      call .ensures .0 ∙ ap₂ afterCarried begun carries,
+      (
+        put-as (a .at) (a .out .now) _ _ (ap₂ carriedText begun carries) (call .ensures .1 .0),
+        omega (arith, n, taken, call .ensures .1 .1),
+      ),
+    )
 
 same-length-2 : tie.Need-same-length-2
 same-length-2 c = search needs
@@ -89,10 +92,13 @@ returns-2 c =
     let told = c .before .before .before .before .before .carried2 .given in
     let call = c .before .before .put-refusal in
     let begun = ap₂ (counted-in (a .self)) (rec .ensures .0) (c .before .before .before .before .before .before .before .before .before .before .next .ensures) in
-    let carries = sym (ap (λ (x : Carried). held x (rec .last .1 .1 .0)) (told .1)) ∙ rec .ensures .1 .0 in
-    (ap₂ afterCarried begun carries,
-     (put-as (a .at) (a .out .now) _ _ (ap₂ carriedText begun carries) (call .ensures .0),
-      omega (arith, call .ensures .1)))
+    let carries = sym (ap (λ (x : Carried). held x (rec .last .1 .1 .0)) (told .1)) ∙ rec .ensures .1 .0 in (
+      ap₂ afterCarried begun carries,
+      (
+        put-as (a .at) (a .out .now) _ _ (ap₂ carriedText begun carries) (call .ensures .0),
+        omega (arith, call .ensures .1),
+      ),
+    )
 
 pub record-spec : {M : Type 1} → statement M
 record-spec =

@@ -27,17 +27,20 @@ same-length c = search needs
 
 returns : tie.Need-returns
 unfolding afterWord wordText
-returns c = 
+returns c =
     let a = c .before .before .before .before .before .before .before .before .args in
     let step = c .before .before .before .before .before .before .step in
     let count = c .before .before .before .before .counted in
-    let call = c .before .before .put-answer in
-    (ap (λ (n : ℕ). let s : Session = record { assembler = step .result .next; run = a .self .run; records = a .self .records; reports = n } in s) (count .ensures)
-     ∙ ap (afterStep (a .self)) (step .ensures),
-     (put-as (a .at) (a .out .now) _ _
-     (ap (λ (n : ℕ). answerText (step .result .answer) (step .result .report) n (a .self .records)) (count .ensures) ∙ ap (stepText (a .self)) (step .ensures))
-     (call .ensures .0),
-     call .ensures .1))
+    let call = c .before .before .put-answer in (
+      ap (λ (n : ℕ). let s : Session = record { assembler = step .result .next; run = a .self .run; records = a .self .records; reports = n } in s) (count .ensures)
+          ∙ ap (afterStep (a .self)) (step .ensures),
+      (
+        put-as (a .at) (a .out .now) _ _
+            (ap (λ (n : ℕ). answerText (step .result .answer) (step .result .report) n (a .self .records)) (count .ensures) ∙ ap (stepText (a .self)) (step .ensures))
+            (call .ensures .0),
+        call .ensures .1,
+      ),
+    )
 
 pub word-spec : {M : Type 1} → statement M
 word-spec =

@@ -16,7 +16,7 @@ use Rattle.recording.proofs.Session.words.Lts as lts
 use Rattle.recording.proofs.Session.word.Reads as word-reads
 
 abbrev Inv-loop : tie.InvT-loop
-Inv-loop words out₀ at session₀ p₀ i₀ out session p i = 
+Inv-loop words out₀ at session₀ p₀ i₀ out session p i =
     (i ≤ length words) × (p ≤ at + i * room) × (afterWords session (drop i words) ≡ afterWords session₀ words) × Left at (wordsText session₀ words) out₀ (wordsText session (drop i words)) p out
 
 abbrev μ-loop : tie.MeasureT-loop
@@ -41,21 +41,22 @@ loop-less : tie.Need-loop-less Inv-loop μ-loop
 loop-less c = omega arith
 
 loop-again : tie.Need-loop-again Inv-loop μ-loop
-loop-again c = 
+loop-again c =
     let a = c .before .before .before .before .before .before .before .before .before .before .args in
     let l = c .before .before .before .before .before .before .before .loop in
     let call = c .before .before .before .word in
     let h = c .before .before .before .before .before .before .loop-test .taken in
     let ws = a .words .now in
-    let next = text-next (l .session) (call .result .session) ws (l .i) h (call .ensures .0) in
-    (omega arith,
-     omega (arith, l .inv .1, call .ensures .1 .1),
-     after-next (l .session) (call .result .session) ws (l .i) h (call .ensures .0) ∙ l .inv .2,
-     left-more (a .at) (wordsText (a .self) ws) (a .out .now) (wordText (l .session) (getD ws (l .i) 0)) _ (l .p) _ (l .out) _
-     (omega (arith, l .inv .1, l .inv .3 .same, c .before .before .before .before .before .before .before .before .before .before .pre))
-     (subst (λ (r : List ℕ). Left (a .at) (wordsText (a .self) ws) (a .out .now) r (l .p) (l .out)) next (l .inv .3))
-     (call .ensures .1 .0)
-     (call .kept .1 .1 .0))
+    let next = text-next (l .session) (call .result .session) ws (l .i) h (call .ensures .0) in (
+      omega arith,
+      omega (arith, l .inv .1, call .ensures .1 .1),
+      after-next (l .session) (call .result .session) ws (l .i) h (call .ensures .0) ∙ l .inv .2,
+      left-more (a .at) (wordsText (a .self) ws) (a .out .now) (wordText (l .session) (getD ws (l .i) 0)) _ (l .p) _ (l .out) _
+          (omega (arith, l .inv .1, l .inv .3 .same, c .before .before .before .before .before .before .before .before .before .before .pre))
+          (subst (λ (r : List ℕ). Left (a .at) (wordsText (a .self) ws) (a .out .now) r (l .p) (l .out)) next (l .inv .3))
+          (call .ensures .1 .0)
+          (call .kept .1 .1 .0),
+    )
 
 same-length : tie.Need-same-length Inv-loop μ-loop
 same-length c = c .before .loop .inv .3 .same
@@ -66,10 +67,13 @@ returns c =
     let a = c .before .before .before .before .args in
     let l = c .before .loop in
     let ws = a .words .now in
-    let none = drop-of-length-le ws (c .loop-test .left) in
-    (subst (λ (r : List ℕ). afterWords (l .session) r ≡ afterWords (a .self) ws) none (l .inv .2),
-     (left-none (a .at) (wordsText (a .self) ws) (a .out .now) _ _ (subst (λ (r : List ℕ). Left (a .at) (wordsText (a .self) ws) (a .out .now) (wordsText (l .session) r) (l .p) (l .out)) none (l .inv .3)),
-     omega (arith, l .inv .0, l .inv .1)))
+    let none = drop-of-length-le ws (c .loop-test .left) in (
+      subst (λ (r : List ℕ). afterWords (l .session) r ≡ afterWords (a .self) ws) none (l .inv .2),
+      (
+        left-none (a .at) (wordsText (a .self) ws) (a .out .now) _ _ (subst (λ (r : List ℕ). Left (a .at) (wordsText (a .self) ws) (a .out .now) (wordsText (l .session) r) (l .p) (l .out)) none (l .inv .3)),
+        omega (arith, l .inv .0, l .inv .1),
+      ),
+    )
 
 pub words-spec : {M : Type 1} → statement M
 words-spec =

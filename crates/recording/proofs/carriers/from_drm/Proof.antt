@@ -29,24 +29,25 @@ same-length c = search needs
 
 returns : tie.Need-returns
 unfolding heldCount
-returns c = 
+returns c =
     let a = c .before .before .before .before .before .before .before .before .before .args in
     let read = c .before .before .before .before .before .read in
     let told = c .before .reading .given in
     let body = a .body .now in
     let room : length (a .words .now) ≡ mostWords = omega arith in
-    let end = read .ensures .1 ∙ ap (λ (r : Reading). wordsAfter r (flat 8 (payload body)) (a .words .now)) (told .1) in
-    (ap (held (code.Words (told .0 .1 .0))) end
-     ∙ unit-held (told .0 .0) (told .0 .1 .0) body (a .words .now)
-     ∙ ap (λ (r : Reading). byUnit r body) (sym (told .1) ∙ read .ensures .0 ∙ ap (readUnit body) room),
-     omega (arith, room, ap length end, read .kept .1 .0, unit-count (told .0 .0) (told .0 .1 .0) body (a .words .now)))
+    let end = read .ensures .1 ∙ ap (λ (r : Reading). wordsAfter r (flat 8 (payload body)) (a .words .now)) (told .1) in (
+      ap (held (code.Words (told .0 .1 .0))) end
+          ∙ unit-held (told .0 .0) (told .0 .1 .0) body (a .words .now)
+          ∙ ap (λ (r : Reading). byUnit r body) (sym (told .1) ∙ read .ensures .0 ∙ ap (readUnit body) room),
+      omega (arith, room, ap length end, read .kept .1 .0, unit-count (told .0 .0) (told .0 .1 .0) body (a .words .now)),
+    )
 
 same-length-2 : tie.Need-same-length-2
 same-length-2 c = search needs
 
 returns-2 : tie.Need-returns-2
 unfolding held heldCount byUnit
-returns-2 c = 
+returns-2 c =
     let a = c .before .before .before .before .before .before .before .before .before .args in
     let read = c .before .before .before .before .before .read in
     let told = c .before .reading2 .given in

@@ -29,39 +29,41 @@ same-length c = search needs
 
 returns : tie.Need-returns
 unfolding heldCount
-returns c = 
+returns c =
     let a = c .before .before .before .before .before .before .before .before .before .before .before .args in
     let read = c .before .before .before .before .before .before .before .read in
     let told = c .before .before .before .reading .given in
     let body = a .body .now in
     let room : length (a .words .now) ≡ mostWords = omega arith in
-    let end = read .ensures .1 ∙ ap (λ (r : Reading). wordsAfter r (drop 2 body) (a .words .now)) (told .1) in
-    (ap (held (code.Words (told .0 .1 .0))) end
-     ∙ fig-held (told .0 .0) (told .0 .1 .0) body (a .words .now) (eq-eqb _ 0 (c .if1 .taken))
-     ∙ ap (λ (r : Reading). byFig r body) (sym (told .1) ∙ read .ensures .0 ∙ ap (readFig body) room),
-     omega (arith, room, ap length end, read .kept .1 .0, fig-count (told .0 .0) (told .0 .1 .0) body (a .words .now)))
+    let end = read .ensures .1 ∙ ap (λ (r : Reading). wordsAfter r (drop 2 body) (a .words .now)) (told .1) in (
+      ap (held (code.Words (told .0 .1 .0))) end
+          ∙ fig-held (told .0 .0) (told .0 .1 .0) body (a .words .now) (eq-eqb _ 0 (c .if1 .taken))
+          ∙ ap (λ (r : Reading). byFig r body) (sym (told .1) ∙ read .ensures .0 ∙ ap (readFig body) room),
+      omega (arith, room, ap length end, read .kept .1 .0, fig-count (told .0 .0) (told .0 .1 .0) body (a .words .now)),
+    )
 
 same-length-2 : tie.Need-same-length-2
 same-length-2 c = search needs
 
 returns-2 : tie.Need-returns-2
 unfolding heldCount
-returns-2 c = 
+returns-2 c =
     let a = c .before .before .before .before .before .before .before .before .before .before .before .args in
     let read = c .before .before .before .before .before .before .before .read in
     let told = c .before .before .before .reading .given in
     let body = a .body .now in
-    let room : length (a .words .now) ≡ mostWords = omega arith in
-    (fig-none (told .0 .0) (told .0 .1 .0) body (a .words .now) _ (ne-eqb _ 0 (c .if1 .left))
-     ∙ ap (λ (r : Reading). byFig r body) (sym (told .1) ∙ read .ensures .0 ∙ ap (readFig body) room),
-     omega arith)
+    let room : length (a .words .now) ≡ mostWords = omega arith in (
+      fig-none (told .0 .0) (told .0 .1 .0) body (a .words .now) _ (ne-eqb _ 0 (c .if1 .left))
+          ∙ ap (λ (r : Reading). byFig r body) (sym (told .1) ∙ read .ensures .0 ∙ ap (readFig body) room),
+      omega arith,
+    )
 
 same-length-3 : tie.Need-same-length-3
 same-length-3 c = search needs
 
 returns-3 : tie.Need-returns-3
 unfolding held heldCount byFig
-returns-3 c = 
+returns-3 c =
     let a = c .before .before .before .before .before .before .before .before .before .args in
     let read = c .before .before .before .before .before .read in
     let told = c .before .reading2 .given in

@@ -42,12 +42,13 @@ same-length c = search needs
 
 returns : tie.Need-returns
 unfolding carriedBy runAfter
-returns c = 
+returns c =
     let call = c .before .before .from-rds in
     let kind : eqb (kindOf (c .before .before .before .before .before .before .before .before .before .args .bytes .now)) 1 ≡ true = eq-eqb _ 1 (sym (c .before .before .before .before .before .before .kind-of .ensures) ∙ c .before .before .before .before .if1 .taken) in
-    let run = c .before .before .before .before .before .before .before .before .before .args .run in
-    (call .ensures .0 ∙ ap (λ (l : List ℕ). received run l .run) (data-part (c .before .before .before .before .before .before .before .before .before .args .bytes .now)) ∙ sym (chosen _ _ _ kind),
-     (call .ensures .1 .0 ∙ ap (λ (l : List ℕ). byRds (received run l .answer)) (data-part (c .before .before .before .before .before .before .before .before .before .args .bytes .now)) ∙ sym (chosen _ _ _ kind), call .ensures .1 .1))
+    let run = c .before .before .before .before .before .before .before .before .before .args .run in (
+      call .ensures .0 ∙ ap (λ (l : List ℕ). received run l .run) (data-part (c .before .before .before .before .before .before .before .before .before .args .bytes .now)) ∙ sym (chosen _ _ _ kind),
+      (call .ensures .1 .0 ∙ ap (λ (l : List ℕ). byRds (received run l .answer)) (data-part (c .before .before .before .before .before .before .before .before .before .args .bytes .now)) ∙ sym (chosen _ _ _ kind), call .ensures .1 .1),
+    )
 
 from-fig-requires : tie.Need-from-fig-requires
 from-fig-requires c κs = search needs
@@ -57,7 +58,7 @@ same-length-2 c = search needs
 
 returns-2 : tie.Need-returns-2
 unfolding carriedBy runAfter
-returns-2 c = 
+returns-2 c =
     let call = c .before .before .from-fig in
     let of = c .before .before .before .before .before .before .before .kind-of .ensures in
     let other : eqb (kindOf (c .before .before .before .before .before .before .before .before .before .before .args .bytes .now)) 1 ≡ false = ne-eqb _ 1 (λ e. c .before .before .before .before .before .if1 .left (of ∙ e)) in
@@ -72,7 +73,7 @@ same-length-3 c = search needs
 
 returns-3 : tie.Need-returns-3
 unfolding carriedBy runAfter
-returns-3 c = 
+returns-3 c =
     let call = c .before .before .from-drm in
     let of = c .before .before .before .before .before .before .before .before .kind-of .ensures in
     let other : eqb (kindOf (c .before .before .before .before .before .before .before .before .before .before .before .args .bytes .now)) 1 ≡ false = ne-eqb _ 1 (λ e. c .before .before .before .before .before .before .if1 .left (of ∙ e)) in
@@ -82,7 +83,7 @@ returns-3 c =
 
 returns-4 : tie.Need-returns-4
 unfolding carriedBy runAfter held heldCount
-returns-4 c = 
+returns-4 c =
     let of = c .before .before .before .before .kind-of .ensures in
     let other : eqb (kindOf (c .before .before .before .before .before .before .before .args .bytes .now)) 1 ≡ false = ne-eqb _ 1 (λ e. c .before .before .if1 .left (of ∙ e)) in
     let other2 : eqb (kindOf (c .before .before .before .before .before .before .before .args .bytes .now)) 2 ≡ false = ne-eqb _ 2 (λ e. c .before .if2 .left (of ∙ e)) in

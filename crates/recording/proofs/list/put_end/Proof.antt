@@ -24,7 +24,7 @@ same-length : tie.Need-same-length
 same-length c = search needs
 
 returns : tie.Need-returns
-returns c = 
+returns c =
     let a = c .before .before .before .before .before .before .before .args in
     let call = c .before .before .put-refusal in
     (put-as (a .at) (a .out .now) _ _ (ap (λ (n : ℕ). refusalLine n 1) (c .before .before .before .next .ensures) ∙ sym (chosen _ _ _ (c .before .before .before .before .before .if1 .taken))) (call .ensures .0), call .ensures .1)
