@@ -9,6 +9,7 @@ pub mod Units
 pub mod Whole
 pub mod Feeding
 pub mod Fed
+pub mod Continuing
 pub mod ReadBack
 pub mod WayBack
 pub mod Allowing

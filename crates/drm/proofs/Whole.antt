@@ -2,7 +2,7 @@
 use Prim.Native.Nat.{ℕ, _-_, _≤_}
 use native.Mathlib.Omega.{arith}
 use mathlib.Core.Path.{_≡_, sym, ap, _∙_}
-use mathlib.Core.Bool.{true, false}
+use mathlib.Core.Bool.{_&&_, true, false}
 use mathlib.Core.List.{List}
 use lib.ListN.{length, take, drop, length-drop}
 use lib.Seq.{length-take-le, take-all}
@@ -18,8 +18,8 @@ use Rattle.drm.specs.declared.Reading.the-variants.{Refused}
 use Rattle.drm.specs.Read.{lengthFits, checkIn, payload, payloadRefusal, unitRefusal, taken, readUnit}
 
 -- the test of the length
-pub in-range : (n : ℕ) → lengthFits n ≡ true → (8 ≤ n) × (n ≤ 128)
-in-range n t = (leb-true 8 n (and-left (leb 8 n) (leb n 128) t), leb-true n 128 (and-right (leb 8 n) (leb n 128) t))
+pub between : (a n b : ℕ) → leb a n && leb n b ≡ true → (a ≤ n) × (n ≤ b)
+between a n b t = (leb-true a n (and-left (leb a n) (leb n b) t), leb-true n b (and-right (leb a n) (leb n b) t))
 
 pub payload-length : (s : List ℕ) → length (payload s) ≡ length s - 2
 payload-length s = length-take-le (length s - 2) s (omega arith)

@@ -25,7 +25,8 @@ isTaken (answer.Tuning n) = true
 isTaken (answer.Administration n) = true
 isTaken (answer.Refused n) = false
 
--- a single-group message, or the first group of another: a message that is open is dropped
+-- a single-group message, or the first group of another: a message that is open is dropped. That no other word that is taken drops one
+-- is `continues` in proofs/Continuing.antt
 unfoldable pub begins : Word → Bool
 begins (Single duration diversion head) = true
 begins (First ci head) = true

@@ -3,7 +3,7 @@ use native.Mathlib.Omega.{arith}
 use mathlib.Core.Path.{refl, sym, _∙_}
 use lib.ListN.{length}
 use Rattle.drm.specs.Read.{wordsAfter}
-use Rattle.drm.proofs.Whole.{in-range, payload-length, accepted, unit-taken, unit-refused}
+use Rattle.drm.proofs.Whole.{between, payload-length, accepted, unit-taken, unit-refused}
 use borrow.Author.Needs.{needs}
 use Rattle.drm.proofs.Unit.read.Statement.{statement}
 use Rattle.drm.proofs.Unit.read.Tie as tie
@@ -14,7 +14,7 @@ unit-refusal-requires c κs = search needs
 sub-end : tie.Need-sub-end
 sub-end c =
     let a = c .before .before .before .before .args in
-    omega (arith, in-range (length (a .s .now)) (accepted (a .s .now) (length (a .out .now)) (sym (c .before .unit-refusal .ensures) ∙ c .if1 .taken) .0))
+    omega (arith, between 8 (length (a .s .now)) 128 (accepted (a .s .now) (length (a .out .now)) (sym (c .before .unit-refusal .ensures) ∙ c .if1 .taken) .0))
 
 slice-aggregate-take-payload : tie.Need-slice-aggregate-take-payload
 slice-aggregate-take-payload c = sym (payload-length (c .before .before .before .before .before .args .s .now))
@@ -24,7 +24,7 @@ take-payload-requires c κs =
     let a = c .before .before .before .before .before .before .args in
     let s = a .s .now in
     let taken = accepted s (length (a .out .now)) (sym (c .before .before .before .unit-refusal .ensures) ∙ c .before .before .if1 .taken) in
-    let fit = in-range (length s) (taken .0) in
+    let fit = between 8 (length s) 128 (taken .0) in
     (omega (arith, fit, payload-length s), omega (arith, fit, payload-length s), taken .1)
 
 same-length : tie.Need-same-length

@@ -30,15 +30,15 @@ sub-count : tie.Need-sub-count
 sub-count c = laid c .in-bytes
 
 slice-relend-prefix-words-at : tie.Need-slice-relend-prefix-words-at
-slice-relend-prefix-words-at c = laid c .room
+slice-relend-prefix-words-at c = omega (arith, laid c .room)
 
 slice-aggregate-words-at : tie.Need-slice-aggregate-words-at
-slice-aggregate-words-at c = sym (length-take-le _ (c .before .before .before .before .before .args .out .now) (laid (c .before) .room))
+slice-aggregate-words-at c = sym (length-take-le _ (c .before .before .before .before .before .args .out .now) (slice-relend-prefix-words-at (c .before)))
 
 words-at-requires : tie.Need-words-at-requires
 words-at-requires c κs =
     let b = c .before .before .before .before .before in
-    let n = length-take-le _ (b .args .out .now) (laid (c .before) .room) in
+    let n = length-take-le _ (b .args .out .now) (slice-relend-prefix-words-at (c .before)) in
     (omega arith, omega (arith, n, laid (c .before) .in-bytes), omega (arith, b .pre .1))
 
 same-length : tie.Need-same-length

@@ -27,17 +27,17 @@ bits-at-requires c κs = search needs
 system-word-requires : tie.Need-system-word-requires
 system-word-requires c κs =
     let b = c .before .before .before .before in
-    system-fits (b .args .p .now) (b .pre .0) (b .pre .2) _ _ (c .before .header-at .ensures) (c .before .before .header-of .ensures) 0 (lit< tt)
+    system-fits (b .args .p .now) (b .pre .0) (b .pre .2) _ _ (c .before .header-at .ensures) (c .before .before .header-of .ensures) _ (lit< tt)
 
 system-word-requires-2 : tie.Need-system-word-requires-2
 system-word-requires-2 c κs =
     let b = c .before .before .before .before .before in
-    system-fits (b .args .p .now) (b .pre .0) (b .pre .2) _ _ (c .before .before .header-at .ensures) (c .before .before .before .header-of .ensures) 1 (lit< tt)
+    system-fits (b .args .p .now) (b .pre .0) (b .pre .2) _ _ (c .before .before .header-at .ensures) (c .before .before .before .header-of .ensures) _ (lit< tt)
 
 system-word-requires-3 : tie.Need-system-word-requires-3
 system-word-requires-3 c κs =
     let b = c .before .before .before .before .before .before in
-    system-fits (b .args .p .now) (b .pre .0) (b .pre .2) _ _ (c .before .before .before .header-at .ensures) (c .before .before .before .before .header-of .ensures) 2 (lit< tt)
+    system-fits (b .args .p .now) (b .pre .0) (b .pre .2) _ _ (c .before .before .before .header-at .ensures) (c .before .before .before .before .header-of .ensures) _ (lit< tt)
 
 unit-of-requires : tie.Need-unit-of-requires
 unit-of-requires c κs = search needs

@@ -4,13 +4,13 @@ use mathlib.Core.Path.{sym, _∙_}
 use lib.ListN.{length}
 use Rattle.bits.proofs.Choice.{chosen, passed-over}
 use Rattle.drm.specs.Read.{unitRefusal}
-use Rattle.drm.proofs.Whole.{in-range, payload-length, check-holds, check-fails}
+use Rattle.drm.proofs.Whole.{between, payload-length, check-holds, check-fails}
 use borrow.Author.Needs.{needs}
 use Rattle.drm.proofs.read.unit_refusal.Statement.{statement}
 use Rattle.drm.proofs.read.unit_refusal.Tie as tie
 
 sub-end : tie.Need-sub-end
-sub-end c = omega (arith, in-range (length (c .before .before .args .s .now)) (c .if1 .taken))
+sub-end c = omega (arith, between _ (length (c .before .before .args .s .now)) _ (c .if1 .taken))
 
 sub-load : tie.Need-sub-load
 sub-load c = search needs
@@ -40,7 +40,7 @@ payload-refusal-requires : tie.Need-payload-refusal-requires
 payload-refusal-requires c κs =
     let b = c .before .before .before .before .before .before in
     let s = b .before .before .args .s .now in
-    let fit = in-range (length s) (b .if1 .taken) in
+    let fit = between _ (length s) _ (b .if1 .taken) in
     (omega (arith, fit, payload-length s), omega (arith, fit, payload-length s))
 
 returns : tie.Need-returns
