@@ -3,3 +3,4 @@ pub mod Going
 pub mod Frames
 pub mod Carrying
 pub mod Turns
+pub mod Moving

@@ -2,3 +2,4 @@ pub mod Frame
 pub mod Carried
 pub mod Session
 pub mod Listing
+pub mod Input

@@ -1,6 +1,7 @@
 // A recording of the house form, listed: records of any number, from bytes that come in pieces of any size.
 mod carriers;
 mod framing;
+pub mod input;
 mod list;
 mod telling;
 
