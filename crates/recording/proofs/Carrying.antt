@@ -4,7 +4,7 @@ use native.Mathlib.Omega.{arith}
 use mathlib.Core.Path.{_≡_, refl, sym, ap, _∙_}
 use mathlib.Core.Bool.{Bool, true, false, cond}
 use mathlib.Core.List.{List, [], _∷_, _++_}
-use lib.ListN.{length, take, drop, set, length-append, length-drop}
+use lib.ListN.{length, take, drop, set, length-append}
 use lib.Seq.{take-at}
 use lib.Dec.{eqb}
 use Rattle.bits.specs.Fields.{flat, words}
@@ -19,7 +19,7 @@ use Rattle.drm.specs.Format as drmFormat
 use Rattle.drm.specs.Payload.{wordsAt}
 use Rattle.drm.specs.Read as drmRead
 use Rattle.recording.specs.declared.Carried.the-variants as code
-use Rattle.recording.specs.Carried.{Carries, gives, byFig, byUnit, held}
+use Rattle.recording.specs.Carried.{gives, byFig, byUnit, held}
 
 -- words in the first cells, as many as they are
 cells : (ws out : List ℕ) (n : ℕ) → length ws ≡ n → n ≤ length (ws ++ drop n out)

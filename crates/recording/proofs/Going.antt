@@ -1,17 +1,15 @@
 -- How far the listing of a stretch has got.
 use Prim.Native.Nat.{ℕ, _+_, _-_, _≤_, _<_}
-use native.Mathlib.Nat.{add-zero}
 use native.Mathlib.Omega.{arith}
-use mathlib.Core.Path.{_≡_, refl, sym, ap, ap₂, subst, _∙_}
+use mathlib.Core.Path.{_≡_, refl, sym, ap, ap₂, _∙_}
 use mathlib.Core.Logic.{inl, inr}
 use mathlib.Core.Bool.{Bool, true, false, cond}
-use mathlib.Core.List.{List, [], _∷_, _++_, append-assoc, append-nil}
+use mathlib.Core.List.{List, [], _++_, append-assoc}
 use lib.ListN.{length, take, drop, length-append, length-drop}
 use lib.Seq.{take-at, take-all, drop-at, drop-drop, length-take-le}
 use Rattle.lines.specs.Text.{put, Put}
 use Rattle.lines.specs.Line.{refusalLine}
 use Rattle.recording.specs.declared.Session.{Session}
-use Rattle.recording.specs.declared.Progress.{Progress}
 use Rattle.recording.specs.declared.Frame.{Frame}
 use Rattle.recording.specs.declared.Frame.the-variants.{End, Part, Bad, Whole}
 use Rattle.recording.specs.Frame.{frameOf}

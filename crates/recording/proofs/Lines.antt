@@ -1,14 +1,14 @@
 -- The law by which `linesFrom` is read, and the lines of an input that comes in pieces.
 use Prim.Native.Nat.{ℕ, zero, suc, _+_, _-_, _≤_, _<_}
 use native.Mathlib.Omega.{arith}
-use mathlib.Core.Path.{_≡_, refl, sym, ap, ap₂, subst, _∙_}
+use mathlib.Core.Path.{_≡_, refl, sym, ap, ap₂, _∙_}
 use mathlib.Core.Bool.{Bool, true, false, cond}
-use mathlib.Core.List.{List, [], _∷_, _++_, append-nil, append-assoc}
+use mathlib.Core.List.{List, [], _∷_, _++_, append-nil}
 use lib.ListN.{length, take, drop, length-append, length-drop}
 use lib.Seq.{take-append-le, drop-append-le}
 use lib.Dec.{leb}
 use borrow.Author.Tests.{leb-true, le-leb}
-use Rattle.bits.proofs.Choice.{and-left, and-right}
+use Rattle.bits.proofs.Choice.{and-left}
 use Rattle.lines.specs.Line.{refusalLine}
 use Rattle.recording.specs.declared.Session.{Session}
 use Rattle.recording.specs.declared.Frame.{Frame}

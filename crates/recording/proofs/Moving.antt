@@ -4,7 +4,7 @@ use native.Mathlib.Nat.{add-comm}
 use native.Mathlib.Numerals.{add-one}
 use native.Mathlib.Omega.{arith}
 use mathlib.Core.Path.{_≡_, refl, sym, ap, ap₂, _∙_}
-use mathlib.Core.List.{List, [], _∷_, _++_}
+use mathlib.Core.List.{List, _++_}
 use lib.ListN.{length, take, drop, getD, set, length-drop, length-append}
 use lib.Seq.{take-all, take-suc, drop-cons, set-at, append-snoc, getD-append-add, getD-drop, length-take-le}
 use Rattle.recording.specs.Input.{kept}

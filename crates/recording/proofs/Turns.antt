@@ -1,12 +1,12 @@
 -- Words to their lines, one after the other.
-use Prim.Native.Nat.{ℕ, suc, _+_, _<_}
+use Prim.Native.Nat.{ℕ, _+_, _<_}
 use native.Mathlib.Nat.{add-zero}
 use native.Mathlib.Numerals.{add-one}
-use mathlib.Core.Path.{_≡_, refl, sym, ap, _∙_}
+use mathlib.Core.Path.{_≡_, sym, ap, _∙_}
 use mathlib.Core.List.{List, [], _∷_, _++_}
 use lib.ListN.{length, getD, drop}
 use lib.Seq.{drop-cons}
-use Rattle.lines.specs.Text.{put, Put}
+use Rattle.lines.specs.Text.{Put}
 use Rattle.lines.proofs.Puts.{put-none}
 use Rattle.rds.specs.declared.Run.{Run}
 use Rattle.recording.specs.declared.Session.{Session}

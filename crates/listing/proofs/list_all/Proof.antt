@@ -5,10 +5,6 @@ use mathlib.Core.Path.{_≡_, refl, _∙_}
 use lib.ListN.{length}
 use Rattle.listing.proofs.list_all.Statement.{statement}
 use Rattle.listing.proofs.list_all.Tie as tie
-use Rattle.listing.proofs.list_all.Reads as reads
-use Rattle.listing.proofs.list_all.Lts as lts
-use Rattle.listing.proofs.turn.Reads as turn-reads
-use Rattle.recording.proofs.Session.new.Reads as new-reads
 
 abbrev Inv-loop : tie.InvT-loop
 Inv-loop input₀ out₀ state₀ turns₀ input out state turns = (state .from ≤ state .held) × (state .held ≤ length input) × (length input ≡ length input₀) × (length out ≡ length out₀)

@@ -6,11 +6,6 @@ use lib.Seq.{length-take-le}
 use Rattle.lines.specs.Line.{header}
 use Rattle.listing.proofs.print_header.Statement.{statement}
 use Rattle.listing.proofs.print_header.Tie as tie
-use Rattle.listing.proofs.print_header.Reads as reads
-use Rattle.listing.proofs.print_header.Lts as lts
-use Rattle.io.proofs.write_all.Reads as write-all-reads
-use Rattle.lines.proofs.line.put_header.Reads as put-header-reads
-use Rattle.os.proofs.fail.Reads as fail-reads
 
 put-header-requires : tie.Need-put-header-requires
 put-header-requires c κs = search needs

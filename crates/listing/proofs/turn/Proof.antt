@@ -8,14 +8,6 @@ use lib.Seq.{length-take-le}
 use Rattle.recording.proofs.Moving.{part-length, within-front}
 use Rattle.listing.proofs.turn.Statement.{statement}
 use Rattle.listing.proofs.turn.Tie as tie
-use Rattle.listing.proofs.turn.Reads as reads
-use Rattle.listing.proofs.turn.Lts as lts
-use Rattle.io.proofs.write_all.Reads as write-all-reads
-use Rattle.listing.proofs.closed.Reads as closed-reads
-use Rattle.listing.proofs.read_more.Reads as read-more-reads
-use Rattle.os.proofs.fail.Reads as fail-reads
-use Rattle.recording.proofs.Session.list.Reads as list-reads
-use Rattle.recording.proofs.input.keep.Reads as keep-reads
 
 sub-list : tie.Need-sub-list
 sub-list c = search needs

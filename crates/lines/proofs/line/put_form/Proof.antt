@@ -8,10 +8,6 @@ use Rattle.lines.specs.Line.{space, letter}
 use Rattle.lines.proofs.Puts.{put-as, put-then}
 use Rattle.lines.proofs.line.put_form.Statement.{statement}
 use Rattle.lines.proofs.line.put_form.Tie as tie
-use Rattle.lines.proofs.line.put_form.Reads as reads
-use Rattle.lines.proofs.line.put_form.Lts as lts
-use Rattle.lines.proofs.line.letter.Reads as letter-reads
-use Rattle.lines.proofs.text.put_byte.Reads as put-byte-reads
 
 put-byte-requires : tie.Need-put-byte-requires
 put-byte-requires c κs = search needs

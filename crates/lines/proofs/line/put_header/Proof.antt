@@ -3,9 +3,6 @@ use borrow.Author.Needs.{needs}
 use Rattle.lines.specs.Line.{header}
 use Rattle.lines.proofs.line.put_header.Statement.{statement}
 use Rattle.lines.proofs.line.put_header.Tie as tie
-use Rattle.lines.proofs.line.put_header.Reads as reads
-use Rattle.lines.proofs.line.put_header.Lts as lts
-use Rattle.lines.proofs.text.put_bytes.Reads as put-bytes-reads
 
 slice-aggregate-put-bytes : tie.Need-slice-aggregate-put-bytes
 slice-aggregate-put-bytes c = search needs

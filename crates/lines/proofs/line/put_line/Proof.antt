@@ -10,12 +10,6 @@ use Rattle.lines.proofs.Puts.{put-then}
 use Rattle.lines.proofs.Rooms.{line-length}
 use Rattle.lines.proofs.line.put_line.Statement.{statement}
 use Rattle.lines.proofs.line.put_line.Tie as tie
-use Rattle.lines.proofs.line.put_line.Reads as reads
-use Rattle.lines.proofs.line.put_line.Lts as lts
-use Rattle.lines.proofs.line.put_form.Reads as put-form-reads
-use Rattle.lines.proofs.text.put_byte.Reads as put-byte-reads
-use Rattle.lines.proofs.text.put_decimal.Reads as put-decimal-reads
-use Rattle.lines.proofs.text.put_fields.Reads as put-fields-reads
 
 put-decimal-requires : tie.Need-put-decimal-requires
 put-decimal-requires c κs = omega (arith, c .before .before .before .pre, line-length (c .before .before .before .args .number) (c .before .before .before .args .form) (c .before .before .before .args .values .now))

@@ -10,10 +10,6 @@ use Rattle.lines.proofs.Puts.{put-then}
 use Rattle.lines.proofs.Rooms.{refusal-length, two-fields}
 use Rattle.lines.proofs.line.put_refusal.Statement.{statement}
 use Rattle.lines.proofs.line.put_refusal.Tie as tie
-use Rattle.lines.proofs.line.put_refusal.Reads as reads
-use Rattle.lines.proofs.line.put_refusal.Lts as lts
-use Rattle.lines.proofs.text.put_byte.Reads as put-byte-reads
-use Rattle.lines.proofs.text.put_fields.Reads as put-fields-reads
 
 put-byte-requires : tie.Need-put-byte-requires
 put-byte-requires c κs = omega (arith, c .before .before .pre)

@@ -4,9 +4,6 @@ use borrow.Author.Needs.{needs}
 use Rattle.lines.proofs.Rooms.{line-fits}
 use Rattle.lines.proofs.line.put_report.Statement.{statement}
 use Rattle.lines.proofs.line.put_report.Tie as tie
-use Rattle.lines.proofs.line.put_report.Reads as reads
-use Rattle.lines.proofs.line.put_report.Lts as lts
-use Rattle.lines.proofs.line.put_line.Reads as put-line-reads
 
 cast-t9 : tie.Need-cast-t9
 cast-t9 c = search needs

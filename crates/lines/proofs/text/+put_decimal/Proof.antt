@@ -1,8 +1,8 @@
 -- The tens, and then the last digit; the measure is the number.
-use Prim.Native.Nat.{ℕ, _/_, _%_, _≤_, _<_}
+use Prim.Native.Nat.{ℕ, _/_, _%_, _<_}
 use native.Mathlib.Omega.{arith}
-use mathlib.Core.Path.{_≡_, refl, sym, ap, subst, _∙_}
-use mathlib.Core.List.{List, [], _∷_, _++_}
+use mathlib.Core.Path.{sym, ap, _∙_}
+use mathlib.Core.List.{[], _∷_}
 use lib.ListN.{length, length-append}
 use borrow.Author.Needs.{needs}
 use borrow.Fn.Kinds.{In}

@@ -10,9 +10,6 @@ use borrow.Author.Needs.{needs}
 use Rattle.lines.proofs.Puts.{Left, left-all, left-more, left-none}
 use Rattle.lines.proofs.text.put_bytes.Statement.{statement}
 use Rattle.lines.proofs.text.put_bytes.Tie as tie
-use Rattle.lines.proofs.text.put_bytes.Reads as reads
-use Rattle.lines.proofs.text.put_bytes.Lts as lts
-use Rattle.lines.proofs.text.put_byte.Reads as put-byte-reads
 
 abbrev Inv-loop : tie.InvT-loop
 Inv-loop out₀ at s p₀ i₀ out p i = (i ≤ length s) × Left at s out₀ (drop i s) p out

@@ -7,10 +7,6 @@ use Rattle.lines.specs.Line.{space}
 use Rattle.lines.proofs.Puts.{put-then}
 use Rattle.lines.proofs.text.put_field.Statement.{statement}
 use Rattle.lines.proofs.text.put_field.Tie as tie
-use Rattle.lines.proofs.text.put_field.Reads as reads
-use Rattle.lines.proofs.text.put_field.Lts as lts
-use Rattle.lines.proofs.text.put_byte.Reads as put-byte-reads
-use Rattle.lines.proofs.text.put_decimal.Reads as put-decimal-reads
 
 put-byte-requires : tie.Need-put-byte-requires
 put-byte-requires c κs = search needs

@@ -11,9 +11,6 @@ use Rattle.lines.proofs.Puts.{Left, left-all, left-more, left-none}
 use Rattle.lines.proofs.Rooms.{fields-next}
 use Rattle.lines.proofs.text.put_fields.Statement.{statement}
 use Rattle.lines.proofs.text.put_fields.Tie as tie
-use Rattle.lines.proofs.text.put_fields.Reads as reads
-use Rattle.lines.proofs.text.put_fields.Lts as lts
-use Rattle.lines.proofs.text.put_field.Reads as put-field-reads
 
 abbrev Inv-loop : tie.InvT-loop
 Inv-loop out₀ at values p₀ i₀ out p i = (i ≤ length values) × Left at (fields values) out₀ (fields (drop i values)) p out

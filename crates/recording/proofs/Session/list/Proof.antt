@@ -1,10 +1,10 @@
 -- What was written up to `at` and the lines of the bytes from `from` on make up the listing.
-use Prim.Native.Nat.{ℕ, _-_}
+use Prim.Native.Nat.{_-_}
 use native.Mathlib.Omega.{arith}
 use mathlib.Core.Path.{_≡_, refl, sym, ap, _∙_}
 use mathlib.Core.Logic.{⊎-elim}
 use mathlib.Core.Bool.{Bool, false, cond}
-use mathlib.Core.List.{List, [], _∷_}
+use mathlib.Core.List.{[], _∷_}
 use types.Run.{OneOf}
 use denote.Enum.Declared as Declared
 use Rattle.recording.proofs.Frame as FrameType
@@ -20,13 +20,6 @@ use Rattle.recording.proofs.Lines.{whole-there}
 use Rattle.recording.proofs.Going.{Going, going-start, going-next, going-end, going-full, tail-part, record-part, record-length}
 use Rattle.recording.proofs.Session.list.Statement.{statement}
 use Rattle.recording.proofs.Session.list.Tie as tie
-use Rattle.recording.proofs.Session.list.Reads as reads
-use Rattle.recording.proofs.Session.list.Lts as lts
-use Rattle.recording.proofs.Session.record.Reads as record-reads
-use Rattle.recording.proofs.framing.frame.Reads as frame-reads
-use Rattle.recording.proofs.list.is_ended.Reads as is-ended-reads
-use Rattle.recording.proofs.list.is_refused.Reads as is-refused-reads
-use Rattle.recording.proofs.list.put_end.Reads as put-end-reads
 
 abbrev Inv-loop : tie.InvT-loop
 Inv-loop s last out₀ session₀ from₀ at₀ out session from at = Going session₀ s last out₀ session from at out

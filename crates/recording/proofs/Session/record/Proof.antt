@@ -1,6 +1,6 @@
 -- The record is counted, and then what it carries is told.
 use borrow.Author.Needs.{needs}
-use Prim.Native.Nat.{ℕ, _≤_}
+use Prim.Native.Nat.{_≤_}
 use native.Mathlib.Omega.{arith}
 use mathlib.Core.Path.{_≡_, sym, ap, ap₂, subst, _∙_}
 use lib.ListN.{length}
@@ -12,12 +12,6 @@ use Rattle.recording.specs.Session.{afterCarried, carriedText, afterReco
 use Rattle.recording.proofs.Turns.{counted-in}
 use Rattle.recording.proofs.Session.record.Statement.{statement}
 use Rattle.recording.proofs.Session.record.Tie as tie
-use Rattle.recording.proofs.Session.record.Reads as reads
-use Rattle.recording.proofs.Session.record.Lts as lts
-use Rattle.lines.proofs.line.put_refusal.Reads as put-refusal-reads
-use Rattle.recording.proofs.Session.words.Reads as words-reads
-use Rattle.recording.proofs.carriers.receive.Reads as receive-reads
-use Rattle.recording.proofs.telling.next.Reads as next-reads
 
 next-requires : tie.Need-next-requires
 next-requires c κs = search needs

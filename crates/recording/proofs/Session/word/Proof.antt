@@ -7,11 +7,6 @@ use Rattle.recording.specs.declared.Session.{Session}
 use Rattle.recording.specs.Session.{answerText, afterStep, stepText, afterWord, wordText}
 use Rattle.recording.proofs.Session.word.Statement.{statement}
 use Rattle.recording.proofs.Session.word.Tie as tie
-use Rattle.recording.proofs.Session.word.Reads as reads
-use Rattle.recording.proofs.Session.word.Lts as lts
-use Rattle.assembler.proofs.Assembler.step.Reads as step-reads
-use Rattle.recording.proofs.telling.counted.Reads as counted-reads
-use Rattle.recording.proofs.telling.put_answer.Reads as put-answer-reads
 
 step-requires : tie.Need-step-requires
 step-requires c κs = search needs

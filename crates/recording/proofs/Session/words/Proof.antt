@@ -4,16 +4,12 @@ use native.Mathlib.Omega.{arith}
 use mathlib.Core.Path.{_≡_, refl, subst, _∙_}
 use mathlib.Core.List.{List}
 use lib.ListN.{length, drop, getD, drop-of-length-le}
-use borrow.Author.Needs.{needs}
 use Rattle.lines.specs.Line.{room}
 use Rattle.lines.proofs.Puts.{Left, left-all, left-more, left-none}
 use Rattle.recording.specs.Session.{afterWords, wordText, wordsText}
 use Rattle.recording.proofs.Turns.{after-next, text-next}
 use Rattle.recording.proofs.Session.words.Statement.{statement}
 use Rattle.recording.proofs.Session.words.Tie as tie
-use Rattle.recording.proofs.Session.words.Reads as reads
-use Rattle.recording.proofs.Session.words.Lts as lts
-use Rattle.recording.proofs.Session.word.Reads as word-reads
 
 abbrev Inv-loop : tie.InvT-loop
 Inv-loop words out₀ at session₀ p₀ i₀ out session p i =

@@ -11,9 +11,6 @@ use Rattle.recording.specs.Carried.{mostWords, byUnit, held, heldCount}
 use Rattle.recording.proofs.Carrying.{unit-held, unit-count}
 use Rattle.recording.proofs.carriers.from_drm.Statement.{statement}
 use Rattle.recording.proofs.carriers.from_drm.Tie as tie
-use Rattle.recording.proofs.carriers.from_drm.Reads as reads
-use Rattle.recording.proofs.carriers.from_drm.Lts as lts
-use Rattle.drm.proofs.Unit.read.Reads as read-reads
 
 read-requires : tie.Need-read-requires
 read-requires c κs = search needs

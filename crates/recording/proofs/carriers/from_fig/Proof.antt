@@ -11,9 +11,6 @@ use Rattle.recording.specs.Carried.{mostWords, byFig, held, heldCount}
 use Rattle.recording.proofs.Carrying.{fig-held, fig-none, fig-count}
 use Rattle.recording.proofs.carriers.from_fig.Statement.{statement}
 use Rattle.recording.proofs.carriers.from_fig.Tie as tie
-use Rattle.recording.proofs.carriers.from_fig.Reads as reads
-use Rattle.recording.proofs.carriers.from_fig.Lts as lts
-use Rattle.fig.proofs.Fig.read.Reads as read-reads
 
 read-requires : tie.Need-read-requires
 read-requires c κs = search needs

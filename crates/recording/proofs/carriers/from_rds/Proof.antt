@@ -1,15 +1,12 @@
 -- The word in the first cell is the valid one.
 use borrow.Author.Needs.{needs}
 use native.Mathlib.Omega.{arith}
-use mathlib.Core.Path.{_≡_, sym, ap, _∙_}
+use mathlib.Core.Path.{sym, ap, _∙_}
 use Rattle.rds.specs.declared.Step.{Step}
 use Rattle.recording.specs.Carried.{byRds, held, heldCount}
 use Rattle.recording.proofs.Carrying.{first-cell}
 use Rattle.recording.proofs.carriers.from_rds.Statement.{statement}
 use Rattle.recording.proofs.carriers.from_rds.Tie as tie
-use Rattle.recording.proofs.carriers.from_rds.Reads as reads
-use Rattle.recording.proofs.carriers.from_rds.Lts as lts
-use Rattle.rds.proofs.Run.receive.Reads as receive-reads
 
 receive-requires : tie.Need-receive-requires
 receive-requires c κs = search needs

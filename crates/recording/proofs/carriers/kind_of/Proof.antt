@@ -3,9 +3,6 @@ use borrow.Author.Needs.{needs}
 use Rattle.recording.specs.Carried.{kindOf}
 use Rattle.recording.proofs.carriers.kind_of.Statement.{statement}
 use Rattle.recording.proofs.carriers.kind_of.Tie as tie
-use Rattle.recording.proofs.carriers.kind_of.Reads as reads
-use Rattle.recording.proofs.carriers.kind_of.Lts as lts
-use Rattle.recording.proofs.framing.little.Reads as little-reads
 
 shared-slice-read-little : tie.Need-shared-slice-read-little
 shared-slice-read-little c = search needs

@@ -15,12 +15,6 @@ use Rattle.drm.specs.Read.{readUnit}
 use Rattle.recording.specs.Carried.{mostWords, byRds, byFig, byUnit, kindOf, carriedBy, runAfter, held, heldCount}
 use Rattle.recording.proofs.carriers.receive.Statement.{statement}
 use Rattle.recording.proofs.carriers.receive.Tie as tie
-use Rattle.recording.proofs.carriers.receive.Reads as reads
-use Rattle.recording.proofs.carriers.receive.Lts as lts
-use Rattle.recording.proofs.carriers.from_drm.Reads as from-drm-reads
-use Rattle.recording.proofs.carriers.from_fig.Reads as from-fig-reads
-use Rattle.recording.proofs.carriers.from_rds.Reads as from-rds-reads
-use Rattle.recording.proofs.carriers.kind_of.Reads as kind-of-reads
 
 kind-of-requires : tie.Need-kind-of-requires
 kind-of-requires c κs = search needs

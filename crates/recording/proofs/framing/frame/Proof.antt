@@ -7,10 +7,6 @@ use Rattle.recording.specs.Frame.{framed}
 use Rattle.recording.proofs.Frames.{frame-none, frame-one, frame-two}
 use Rattle.recording.proofs.framing.frame.Statement.{statement}
 use Rattle.recording.proofs.framing.frame.Tie as tie
-use Rattle.recording.proofs.framing.frame.Reads as reads
-use Rattle.recording.proofs.framing.frame.Lts as lts
-use Rattle.recording.proofs.framing.framed.Reads as framed-reads
-use Rattle.recording.proofs.framing.little.Reads as little-reads
 
 returns : tie.Need-returns
 returns c = frame-none _ (c .if1 .taken)

@@ -5,8 +5,6 @@ use Rattle.bits.proofs.Choice.{chosen, passed-over}
 use Rattle.recording.specs.Frame.{framed}
 use Rattle.recording.proofs.framing.framed.Statement.{statement}
 use Rattle.recording.proofs.framing.framed.Tie as tie
-use Rattle.recording.proofs.framing.framed.Reads as reads
-use Rattle.recording.proofs.framing.framed.Lts as lts
 
 returns : tie.Need-returns
 unfolding framed

@@ -7,8 +7,6 @@ use lib.ListN.{length, getD, set}
 use Rattle.recording.proofs.Moving.{moved, move-none, move-more, move-all, length-moved}
 use Rattle.recording.proofs.input.keep.Statement.{statement}
 use Rattle.recording.proofs.input.keep.Tie as tie
-use Rattle.recording.proofs.input.keep.Reads as reads
-use Rattle.recording.proofs.input.keep.Lts as lts
 
 abbrev Inv-loop : tie.InvT-loop
 Inv-loop s₀ from n i₀ s i = (i ≤ n) × (s ≡ moved from i s₀)
@@ -38,17 +36,18 @@ loop-less : tie.Need-loop-less Inv-loop μ-loop
 loop-less c = omega arith
 
 loop-again : tie.Need-loop-again Inv-loop μ-loop
-loop-again c = 
+loop-again c =
     let a = c .before .before .before .args in
-    let l = c .before .before .loop in
-    (omega arith,
-     ap (λ (m : List ℕ). set m (l .i) (getD m (a .from + l .i) 0)) (l .inv .1) ∙ move-more (a .from) (l .i) (a .s .now) (omega (arith, c .before .before .before .pre, c .before .loop-test .taken)))
+    let l = c .before .before .loop in (
+      omega arith,
+      ap (λ (m : List ℕ). set m (l .i) (getD m (a .from + l .i) 0)) (l .inv .1) ∙ move-more (a .from) (l .i) (a .s .now) (omega (arith, c .before .before .before .pre, c .before .loop-test .taken)),
+    )
 
 same-length : tie.Need-same-length Inv-loop μ-loop
 same-length c = ap length (c .before .loop .inv .1) ∙ length-moved (c .before .before .args .from) (c .before .loop .i) (c .before .before .args .s .now) (omega (arith, c .before .before .pre))
 
 returns : tie.Need-returns Inv-loop μ-loop
-returns c = 
+returns c =
     let a = c .before .before .args in
     let l = c .before .loop in
     let all : l .i ≡ length (a .s .now) - a .from = omega (arith, l .inv .0, c .loop-test .left) in

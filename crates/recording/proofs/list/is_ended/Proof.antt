@@ -5,8 +5,6 @@ use Rattle.recording.specs.declared.Frame.{Frame}
 use Rattle.recording.specs.Listing.{endedAt}
 use Rattle.recording.proofs.list.is_ended.Statement.{statement}
 use Rattle.recording.proofs.list.is_ended.Tie as tie
-use Rattle.recording.proofs.list.is_ended.Reads as reads
-use Rattle.recording.proofs.list.is_ended.Lts as lts
 
 enum-told : tie.Need-enum-told
 enum-told c = search needs

@@ -5,8 +5,6 @@ use Rattle.recording.specs.declared.Frame.{Frame}
 use Rattle.recording.specs.Listing.{refusedAt}
 use Rattle.recording.proofs.list.is_refused.Statement.{statement}
 use Rattle.recording.proofs.list.is_refused.Tie as tie
-use Rattle.recording.proofs.list.is_refused.Reads as reads
-use Rattle.recording.proofs.list.is_refused.Lts as lts
 
 enum-told : tie.Need-enum-told
 enum-told c = search needs

@@ -9,10 +9,6 @@ use Rattle.lines.proofs.Puts.{put-as}
 use Rattle.recording.proofs.Turns.{put-nothing}
 use Rattle.recording.proofs.list.put_end.Statement.{statement}
 use Rattle.recording.proofs.list.put_end.Tie as tie
-use Rattle.recording.proofs.list.put_end.Reads as reads
-use Rattle.recording.proofs.list.put_end.Lts as lts
-use Rattle.lines.proofs.line.put_refusal.Reads as put-refusal-reads
-use Rattle.recording.proofs.telling.next.Reads as next-reads
 
 next-requires : tie.Need-next-requires
 next-requires c κs = search needs

@@ -5,9 +5,6 @@ use Rattle.assembler.specs.declared.Answer.{Answer}
 use Rattle.recording.specs.Session.{counted}
 use Rattle.recording.proofs.telling.counted.Statement.{statement}
 use Rattle.recording.proofs.telling.counted.Tie as tie
-use Rattle.recording.proofs.telling.counted.Reads as reads
-use Rattle.recording.proofs.telling.counted.Lts as lts
-use Rattle.recording.proofs.telling.next.Reads as next-reads
 
 enum-told : tie.Need-enum-told
 enum-told c = search needs

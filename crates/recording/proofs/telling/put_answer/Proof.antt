@@ -8,10 +8,6 @@ use Rattle.recording.specs.Session.{answerText}
 use Rattle.recording.proofs.Turns.{put-nothing}
 use Rattle.recording.proofs.telling.put_answer.Statement.{statement}
 use Rattle.recording.proofs.telling.put_answer.Tie as tie
-use Rattle.recording.proofs.telling.put_answer.Reads as reads
-use Rattle.recording.proofs.telling.put_answer.Lts as lts
-use Rattle.lines.proofs.line.put_refusal.Reads as put-refusal-reads
-use Rattle.lines.proofs.line.put_report.Reads as put-report-reads
 
 enum-told : tie.Need-enum-told
 enum-told c = search needs
