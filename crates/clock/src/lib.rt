@@ -12,7 +12,8 @@ impl Utc {
     // The largest minute of a call.
     pub const LARGEST: u32 = 4_000_000_000;
 
-    // The local minute: 30 minutes later for each half hour of offset.
+    // The local minute: 30 minutes later for each half hour of offset. The 480 minutes make three days with the 128 half hours by which
+    // the offset is counted too high.
     pub fn local(self, lto: i8) -> Local
         ensures { λ r. ⌜ r .0 ≡ localOf (self .0) lto ⌝ }
     {

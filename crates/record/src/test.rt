@@ -10,6 +10,9 @@ use bits::zero::zeros_at;
 use content::content::Content;
 
 impl Record {
+    // The bits before the content.
+    pub const CONTENT: usize = 128;
+
     // The least and the greatest value of each byte of a used record.
     pub const LOWS: [u8; 32] = [
         1,
@@ -103,5 +106,5 @@ pub fn rest_fits(r: &[u8]) -> bool
     }
     let groups = r[1] as usize;
     let used = Content::GROUP * (groups - 1);
-    (expiry(r) != 0) & zeros_at(r, 128 + used, Content::LONGEST - used)
+    (expiry(r) != 0) & zeros_at(r, Record::CONTENT + used, Content::LONGEST - used)
 }

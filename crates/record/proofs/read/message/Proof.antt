@@ -1,3 +1,4 @@
+-- The single-group report, or the items of the content.
 use mathlib.Core.Path.{sym, ap, ap₂, _∙_}
 use mathlib.Core.Bool.{Bool}
 use mathlib.Core.List.{List}
@@ -7,7 +8,6 @@ use Rattle.report.specs.Report.{singleReport}
 use Rattle.report.specs.Read.{report, readBits, outcomeOf}
 use Rattle.record.specs.Layout.{durationIn, diversionIn}
 use Rattle.record.proofs.Steps.{single-message, multi-message, held-bits}
--- The single-group report, or the items of the content.
 use native.Mathlib.Omega.{arith}
 use lib.ListN.{getD}
 use borrow.Author.Tests.{eqb-false}
