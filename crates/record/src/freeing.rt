@@ -9,7 +9,7 @@ use crate::Rule;
 use crate::Service;
 
 // The minute at which the record ends.
-pub(crate) fn expiry(r: &[u8]) -> u32
+pub fn expiry(r: &[u8]) -> u32
     requires { ⌜ length (now r) ≡ recordSize ⌝ }
     ensures { λ n. ⌜ n ≡ expiryIn (now (r .entry)) ⌝ }
 {
@@ -32,7 +32,7 @@ fn same_service(r: &[u8], s: Service) -> bool
 }
 
 // Whether the record is of the same service, location, direction and update class.
-fn same_key(r: &[u8], key: Key) -> bool
+pub fn same_key(r: &[u8], key: Key) -> bool
     requires { ⌜ length (now r) ≡ recordSize ⌝ }
     ensures { λ b. ⌜ b ≡ sameKey key (now (r .entry)) ⌝ }
 {
@@ -43,7 +43,7 @@ fn same_key(r: &[u8], key: Key) -> bool
 }
 
 // Whether the record is used and the rule frees it.
-pub fn falls_under(r: &[u8], rule: Rule) -> bool
+fn falls_under(r: &[u8], rule: Rule) -> bool
     requires { ⌜ length (now r) ≡ recordSize ⌝ }
     ensures { λ b. ⌜ b ≡ falls rule (now (r .entry)) ⌝ }
 {

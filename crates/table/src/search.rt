@@ -7,8 +7,8 @@ ghost use Rattle.table.specs.Records.{records, firstOf};
 ghost use Rattle.table.specs.Take.{vacant};
 use record::Key;
 use record::Record;
-use record::Rule;
-use record::freeing::falls_under;
+use record::freeing::expiry;
+use record::freeing::same_key;
 
 // The lowest-numbered record that is free, expired or matching, or the number of records where there is none.
 pub(crate) fn find_place(t: &[u8], minute: u32, key: Key) -> usize
@@ -35,5 +35,5 @@ fn is_vacant(r: &[u8], minute: u32, key: Key) -> bool
     requires { ⌜ length (now r) ≡ recordSize ⌝ }
     ensures { λ b. ⌜ b ≡ vacant minute key (now (r .entry)) ⌝ }
 {
-    (r[0] == 0) | (falls_under(r, Rule::Expired(minute)) | falls_under(r, Rule::Matching(key)))
+    (r[0] == 0) | ((expiry(r) <= minute) | same_key(r, key))
 }
