@@ -5,3 +5,4 @@ pub mod Figs
 pub mod Units
 pub mod Reporting
 pub mod Tables
+pub mod Wording

@@ -7,3 +7,4 @@ mod reports;
 mod runs;
 mod tables;
 mod units;
+mod words;
