@@ -1,16 +1,20 @@
--- `alertc_drm_read` (include/alertc.h, "DRM").
+-- `alertc_drm_read` and `alertc_drm_write` (include/alertc.h, "DRM").
 use Prim.Native.Nat.{ℕ}
 use mathlib.Core.Bool.{Bool, cond}
 use mathlib.Core.List.{List, [], _∷_}
 use lib.IntN.{ℤ}
-use lib.ListN.{length}
+use lib.ListN.{length, take, getD}
 use lib.Dec.{ltb}
 use Rattle.bits.specs.Fields.{flat}
 use Rattle.drm.specs.declared.Unit.{Unit}
 use Rattle.drm.specs.declared.Reading.{Reading}
 use Rattle.drm.specs.declared.Reading.the-variants as reading
+use Rattle.drm.specs.declared.Writing.{Writing}
+use Rattle.drm.specs.declared.Writing.the-variants as writing
+use Rattle.drm.specs.Write.{writeUnit, bytesAfter as bytesIn}
 use Rattle.drm.specs.Read.{payload, readUnit, wordsAfter as wordsIn}
 use Rattle.cells.specs.Written.{written}
+use Rattle.cells.specs.Ranges.{below}
 
 -- 0, or the number of the refusal
 unfoldable pub readingNumber : Reading → ℕ
@@ -54,3 +58,51 @@ wordsAfter s unit words = cond (small unit) words (wordsIn (readingOf s words) (
 
 unfoldable pub countAfter : (s unit words : List ℕ) → ℕ → ℕ
 countAfter s unit words old = cond (small unit) old (countRead (readingOf s words) old)
+
+-- the ranges that the fields of a unit can hold
+abbrev pub unitLimits : List ℕ
+unitLimits = 256 ∷ 256 ∷ 256 ∷ 256 ∷ 256 ∷ 256 ∷ 65536 ∷ 65536 ∷ 65536 ∷ []
+
+-- the unit of cells in these ranges, with its local time offset
+unfoldable pub unitIn : List ℕ → ℤ → Unit
+unitIn s lto = record {
+  tmchi = getD s 0 0;
+  id = getD s 1 0;
+  services = getD s 2 0;
+  country = getD s 3 0;
+  ecc = getD s 4 0;
+  lto = lto;
+  system = getD s 5 0;
+  first = getD s 6 0;
+  second = getD s 7 0;
+  third = getD s 8 0;
+}
+
+-- TMCHI out of its range, which no writer takes
+abbrev pub unfitUnit : ℤ → Unit
+unfitUnit lto =
+    record { tmchi = 255; id = 0; services = 0; country = 0; ecc = 0; lto = lto; system = 0; first = 0; second = 0; third = 0 }
+
+-- the unit of any cells
+unfoldable pub unitFrom : List ℕ → ℤ → Unit
+unitFrom s lto = cond (below unitLimits (take 9 s)) (unitIn s lto) (unfitUnit lto)
+
+unfoldable pub writingNumber : Writing → ℕ
+writingNumber (writing.Written n) = 0
+writingNumber (writing.Refused n) = n
+
+unfoldable pub lengthOf : Writing → ℕ → ℕ
+lengthOf (writing.Written n) old = n
+lengthOf (writing.Refused n) old = old
+
+abbrev pub writingOf : List ℕ → ℤ → (words out : List ℕ) → Writing
+writingOf s lto words out = writeUnit (unitFrom s lto) words (length out)
+
+unfoldable pub writeNumber : List ℕ → ℤ → (words out : List ℕ) → ℕ
+writeNumber s lto words out = cond (small s) 15 (writingNumber (writingOf s lto words out))
+
+unfoldable pub bytesAfter : List ℕ → ℤ → (words out : List ℕ) → List ℕ
+bytesAfter s lto words out = cond (small s) out (bytesIn (writingOf s lto words out) (unitFrom s lto) words out)
+
+unfoldable pub countWritten : List ℕ → ℤ → (words out : List ℕ) → ℕ → ℕ
+countWritten s lto words out old = cond (small s) old (lengthOf (writingOf s lto words out) old)

@@ -4,10 +4,29 @@ ghost use Prim.Native.Nat.{_≤_};
 ghost use lib.ListN.{length};
 ghost use Rattle.cells.specs.Written.{written};
 ghost use Rattle.crc.specs.Register.{checkWord};
-ghost use Rattle.capi.specs.Units.{unitCells, readNumber, unitAfter, ltoAfter, wordsAfter, countAfter};
+ghost use mathlib.Core.Bool.{true};
+ghost use lib.ListN.{take};
+ghost use Rattle.cells.specs.Ranges.{below};
+ghost use Rattle.capi.specs.Units.{unitCells, readNumber, unitAfter, ltoAfter, wordsAfter, countAfter, unitLimits, unitIn, unitFrom, writeNumber, bytesAfter, countWritten};
+use cells::array::in_ranges;
 use cells::array::put;
 use drm::Reading;
 use drm::Unit;
+use drm::Writing;
+
+const CELLS: usize = 9;
+
+const LIMITS: [u64; CELLS] = [
+    0x100,
+    0x100,
+    0x100,
+    0x100,
+    0x100,
+    0x100,
+    0x1_0000,
+    0x1_0000,
+    0x1_0000,
+];
 
 // The check word of DRM data units.
 #[no_mangle]
@@ -32,7 +51,7 @@ pub extern "C" fn alertc_drm_read(
     ensures { λ _. ⌜ now (words .exit) ≡ wordsAfter (now (bytes .entry)) (now (unit .entry)) (now (words .entry)) ⌝ }
     ensures { λ _. ⌜ now (count .exit) ≡ countAfter (now (bytes .entry)) (now (unit .entry)) (now (words .entry)) (now (count .entry)) ⌝ }
 {
-    if unit.len() < 9 {
+    if unit.len() < CELLS {
         return 15;
     }
     let reading = Unit::read(bytes, words);
@@ -48,6 +67,73 @@ pub extern "C" fn alertc_drm_read(
             0
         }
         Reading::Refused(n) => n,
+    }
+}
+
+// Writes a data unit and the number of its bytes.
+#[no_mangle]
+pub extern "C" fn alertc_drm_write(
+    unit: &[u64],
+    lto: i8,
+    words: &[u64],
+    out: &mut [u8],
+    count: &mut usize,
+) -> u8
+    ensures { λ n. ⌜ n ≡ writeNumber (now (unit .entry)) lto (now (words .entry)) (now (out .entry)) ⌝ }
+    ensures { λ _. ⌜ now (out .exit) ≡ bytesAfter (now (unit .entry)) lto (now (words .entry)) (now (out .entry)) ⌝ }
+    ensures { λ _. ⌜ now (count .exit) ≡ countWritten (now (unit .entry)) lto (now (words .entry)) (now (out .entry)) (now (count .entry)) ⌝ }
+{
+    if unit.len() < CELLS {
+        return 15;
+    }
+    let writing = unit_from(unit, lto).write(words, out);
+    match writing {
+        Writing::Written(n) => {
+            *count = n;
+            0
+        }
+        Writing::Refused(n) => n,
+    }
+}
+
+// The unit of cells, or one that no writer takes where a cell is out of its range.
+fn unit_from(cells: &[u64], lto: i8) -> Unit
+    requires { ⌜ 9 ≤ length (now cells) ⌝ }
+    ensures { λ u. ⌜ u ≡ unitFrom (now (cells .entry)) lto ⌝ }
+{
+    if in_ranges(cells, &LIMITS) {
+        unit_in(cells, lto)
+    } else {
+        Unit {
+            tmchi: 255,
+            id: 0,
+            services: 0,
+            country: 0,
+            ecc: 0,
+            lto,
+            system: 0,
+            first: 0,
+            second: 0,
+            third: 0,
+        }
+    }
+}
+
+fn unit_in(cells: &[u64], lto: i8) -> Unit
+    requires { ⌜ (9 ≤ length (now cells)) × (below unitLimits (take 9 (now cells)) ≡ true) ⌝ }
+    ensures { λ u. ⌜ u ≡ unitIn (now (cells .entry)) lto ⌝ }
+{
+    Unit {
+        tmchi: cells[0] as u8,
+        id: cells[1] as u8,
+        services: cells[2] as u8,
+        country: cells[3] as u8,
+        ecc: cells[4] as u8,
+        lto,
+        system: cells[5] as u8,
+        first: cells[6] as u16,
+        second: cells[7] as u16,
+        third: cells[8] as u16,
     }
 }
 

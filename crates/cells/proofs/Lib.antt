@@ -1,3 +1,5 @@
 pub mod Arrays
 pub mod Writing
 mod Places
+pub mod ReportsBack
+pub mod AssemblersBack

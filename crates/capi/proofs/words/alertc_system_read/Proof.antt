@@ -1,13 +1,11 @@
 -- By the size, and then by what is read.
-use mathlib.Core.Path.{_≡_, refl, sym, ap, ap₂, _∙_}
+use mathlib.Core.Path.{sym, ap, _∙_}
 use Prim.Native.Nat.{ℕ}
-use mathlib.Core.List.{List, [], _∷_}
+use mathlib.Core.List.{List}
 use lib.ListN.{length}
 use Rattle.system.specs.declared.Reading.{Reading}
-use Rattle.system.specs.declared.System.{System}
 use Rattle.cells.specs.Written.{writtenAt, written}
 use Rattle.cells.proofs.Writing.{put-first, nothing-written}
-use Rattle.word_cells.specs.Systems.{systemCells}
 use Rattle.capi.specs.Wording.{readingNumber, readingCells, readNumber, systemAfter}
 use Rattle.capi.proofs.Ways.{size-refused, size-passed}
 use borrow.Author.Needs.{needs}

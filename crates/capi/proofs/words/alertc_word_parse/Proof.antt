@@ -1,13 +1,12 @@
 -- By the size, and then by the number.
-use mathlib.Core.Path.{_≡_, refl, sym, ap, ap₂, _∙_}
+use mathlib.Core.Path.{sym, ap, _∙_}
 use Prim.Native.Nat.{ℕ}
-use mathlib.Core.List.{List, [], _∷_}
+use mathlib.Core.List.{List}
 use lib.ListN.{length}
 use borrow.Author.Tests.{le-leb, lt-leb}
-use Rattle.word.specs.declared.Word.{Word}
 use Rattle.word.specs.Kind.{kindOf}
 use Rattle.bits.proofs.Choice.{chosen, passed-over}
-use Rattle.cells.specs.Written.{writtenAt, written}
+use Rattle.cells.specs.Written.{writtenAt}
 use Rattle.cells.proofs.Writing.{put-first}
 use Rattle.word_cells.specs.Words.{wordCells}
 use Rattle.capi.specs.Wording.{parseNumber, fieldsAfter}
