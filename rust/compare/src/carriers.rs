@@ -12,6 +12,11 @@ pub const COUNT: usize = 0x5A5A;
 
 const LIMIT: u64 = 1 << 37;
 
+/// What a reader of a FIG is lent: header, words, count.
+type FigRead = (Vec<u64>, Vec<u64>, usize);
+/// What a reader of a DRM unit is lent: header, local time offset, words, count.
+type DrmRead = (Vec<u64>, i8, Vec<u64>, usize);
+
 impl Trial {
     /// A word of any kind, now and then one of 2^37 or more.
     pub fn any_word(&mut self) -> u64 {
@@ -263,26 +268,53 @@ impl Trial {
         if !whole {
             self.damage_fig(&mut fig);
         }
-        let header = vec![CELL; self.random.room(cells::FIG)];
+        let header = self.random.room(cells::FIG);
         let room = if self.random.once_in(4) {
             self.random.place(count + 2)
         } else {
             16
         };
-        let entry = (header, vec![CELL; room], COUNT);
-        let (mut a, mut b) = (entry.clone(), entry.clone());
-        let proved = proved::fig_read(&fig, &mut a.0, &mut a.1, &mut a.2);
-        let second = cells::fig_read(&fig, &mut b.0, &mut b.1, &mut b.2);
-        let input = (&fig, entry.0.len(), room);
-        self.tally
-            .agree(Call::FigRead, &input, &entry, (proved, &a), (second, &b));
-        if whole && entry.0.len() >= cells::FIG && room >= count {
-            let mut meant = entry.clone();
+        let found = self.read_fig(&fig, header, room);
+        if whole && header >= cells::FIG && room >= count {
+            let mut meant = (vec![CELL; header], vec![CELL; room], count);
             meant.0[..2].copy_from_slice(&[d1, tcid]);
             meant.1[..count].copy_from_slice(&words);
-            meant.2 = count;
-            self.tally
-                .expect(Call::FigRead, &input, (proved, a), (0, meant));
+            self.tally.expect(Call::FigRead, &fig, found, (0, meant));
+        }
+    }
+
+    fn read_fig(&mut self, fig: &[u8], header: usize, room: usize) -> (u8, FigRead) {
+        let entry = (vec![CELL; header], vec![CELL; room], COUNT);
+        let (mut a, mut b) = (entry.clone(), entry.clone());
+        let proved = proved::fig_read(fig, &mut a.0, &mut a.1, &mut a.2);
+        let second = cells::fig_read(fig, &mut b.0, &mut b.1, &mut b.2);
+        let input = (fig, header, room);
+        self.tally
+            .agree(Call::FigRead, &input, &entry, (proved, &a), (second, &b));
+        (proved, a)
+    }
+
+    /// Every length with every mix of faults.
+    pub fn fig_faults(&mut self) {
+        for length in 0..=33_usize {
+            for faults in 0..1 << 7 {
+                let fault = |i: u32| faults >> i & 1;
+                let mut fig = vec![0; length];
+                let count = (length + fault(0)).wrapping_sub(1 + fault(1));
+                let first = [(5 + fault(2)) << 5 | count & 31, 0x29 + fault(3)];
+                for (byte, first) in fig.iter_mut().zip(first) {
+                    *byte = first as u8;
+                }
+                if length > 1 {
+                    fig[1] |= (fault(4) << 7 | fault(5) << 6) as u8;
+                }
+                if length > 2 {
+                    fig[length - 1] = fault(6) as u8;
+                }
+                for room in [0, 14] {
+                    self.read_fig(&fig, cells::FIG, room);
+                }
+            }
         }
     }
 
@@ -394,27 +426,57 @@ impl Trial {
         if damaged && self.random.once_in(3) {
             self.damage_bytes(&mut bytes, 132);
         }
-        let header = vec![CELL; self.random.room(cells::DRM)];
+        let header = self.random.room(cells::DRM);
         let room = if self.random.once_in(5) {
             self.random.place(count + 2)
         } else {
             28
         };
-        let entry = (header, 99, vec![CELL; room], COUNT);
+        let found = self.read_unit(&bytes, header, room);
+        if whole && header >= cells::DRM && room >= count {
+            let mut meant = (vec![CELL; header], unit.lto, vec![CELL; room], count);
+            meant.0[..cells::DRM].copy_from_slice(&unit.cells());
+            meant.2[..count].copy_from_slice(&unit.words);
+            self.tally.expect(Call::DrmRead, &bytes, found, (0, meant));
+        }
+    }
+
+    fn read_unit(&mut self, bytes: &[u8], header: usize, room: usize) -> (u8, DrmRead) {
+        let entry = (vec![CELL; header], 99, vec![CELL; room], COUNT);
         let (mut a, mut b) = (entry.clone(), entry.clone());
-        let proved = proved::drm_read(&bytes, &mut a.0, &mut a.1, &mut a.2, &mut a.3);
-        let second = cells::drm_read(&bytes, &mut b.0, &mut b.1, &mut b.2, &mut b.3);
-        let input = (&bytes, entry.0.len(), room);
+        let proved = proved::drm_read(bytes, &mut a.0, &mut a.1, &mut a.2, &mut a.3);
+        let second = cells::drm_read(bytes, &mut b.0, &mut b.1, &mut b.2, &mut b.3);
+        let input = (bytes, header, room);
         self.tally
             .agree(Call::DrmRead, &input, &entry, (proved, &a), (second, &b));
-        if whole && entry.0.len() >= cells::DRM && room >= count {
-            let mut meant = entry.clone();
-            meant.0[..cells::DRM].copy_from_slice(&unit.cells());
-            meant.1 = unit.lto;
-            meant.2[..count].copy_from_slice(&unit.words);
-            meant.3 = count;
-            self.tally
-                .expect(Call::DrmRead, &input, (proved, a), (0, meant));
+        (proved, a)
+    }
+
+    /// Every length with every number of system words and every mix of faults.
+    pub fn drm_faults(&mut self) {
+        for length in 0..=129 {
+            for faults in 0..1 << 8 {
+                let fault = |i: u32| faults >> i & 1;
+                let mut bytes = vec![0_u8; length];
+                let (tmchi, rfu, ua) = (fault(0), fault(1), fault(2));
+                if length > 5 {
+                    bytes[0] = (tmchi << 7 | rfu << 6 | ua) as u8;
+                    let aid = [0xCD, 0x46 + fault(3) as u8];
+                    let m = (fault(4) << 1 | fault(5)) as u8;
+                    if ua == 1 {
+                        bytes[1..3].copy_from_slice(&aid);
+                        bytes[5] = m;
+                    } else {
+                        bytes[3] = m;
+                    }
+                    bytes[length - 1] |= fault(6) as u8;
+                }
+                let mut bytes = sender::checked(bytes);
+                *bytes.last_mut().unwrap() ^= fault(7) as u8;
+                for room in [0, 28] {
+                    self.read_unit(&bytes, cells::DRM, room);
+                }
+            }
         }
     }
 

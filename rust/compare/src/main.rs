@@ -108,6 +108,8 @@ fn main() -> ExitCode {
         tally: Tally::default(),
     };
     (0..=u16::MAX).for_each(|word| trial.system_read(word));
+    trial.fig_faults();
+    trial.drm_faults();
     for _ in 0..options.rounds {
         trial.round();
     }
