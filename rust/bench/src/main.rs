@@ -21,7 +21,8 @@ use second::report::{self, Report};
 use second::table::{self, Arrival, Lists, Service};
 use second::word::Head;
 
-const REPETITIONS: usize = 15;
+const REPETITIONS: usize = 200;
+const LISTING_REPETITIONS: usize = 20;
 const USAGE: &str = "bench [--listing PATH --listing2 PATH]";
 
 /// Least times of both sides.
@@ -192,7 +193,7 @@ fn units(count: u16) -> Vec<Vec<u8>> {
 }
 
 fn bench_drm() {
-    let units = units(2000);
+    let units = units(500);
     let ours = || {
         for bytes in &units {
             let (mut unit, mut lto, mut words, mut count) = ([0; 9], 0, [0; drm::MOST_WORDS], 0);
@@ -243,7 +244,7 @@ fn bench_assembler(words: &[u64]) {
 
 /// Takes into a table with one free record, each matching one record.
 fn bench_take(records: usize) -> Times {
-    const TAKES: usize = 1000;
+    const TAKES: usize = 20;
     let mut catalogue = [0; table::EVENTS];
     catalogue[101] = 1 << 6 | 5;
     let lives = [60; table::LIVES];
@@ -305,7 +306,7 @@ fn bench_take(records: usize) -> Times {
     times
 }
 
-/// A recording of all three kinds, of about 40 million bytes.
+/// A recording of all three kinds.
 fn recording(words: &[u64]) -> Vec<u8> {
     let mut out = Vec::new();
     let mut add = |kind, body: &[u8]| {
@@ -313,7 +314,7 @@ fn recording(words: &[u64]) -> Vec<u8> {
         written.expect("a fit record");
     };
     let (groups, figs, units) = (groups(words), figs(words), units(500));
-    for _ in 0..25 {
+    for _ in 0..12 {
         for group in groups.chunks_exact(8) {
             add(recording::RDS, group);
             add(recording::RDS, group);
@@ -353,13 +354,14 @@ fn bench_listing(words: &[u64], listing: &Path, listing2: &Path) -> io::Result<(
         ours: Duration::MAX,
         second: Duration::MAX,
     };
-    for _ in 0..REPETITIONS.min(5) {
+    for _ in 0..LISTING_REPETITIONS {
         least.ours = least.ours.min(time(&mut || run(listing)));
         least.second = least.second.min(time(&mut || run(listing2)));
     }
     fs::remove_file(&path)?;
     result?;
-    least.print("listing, a byte", bytes.len());
+    let what = format!("listing of {} bytes, a byte", bytes.len());
+    least.print(&what, bytes.len());
     Ok(())
 }
 
@@ -380,7 +382,7 @@ fn main() -> ExitCode {
         eprintln!("{USAGE}");
         return ExitCode::FAILURE;
     };
-    let words = words(15_000);
+    let words = words(10_000);
     bench_rds(&words);
     bench_fig(&words);
     bench_drm();
