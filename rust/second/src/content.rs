@@ -170,6 +170,7 @@ mod tests {
     }
 
     #[test]
+    #[allow(clippy::unusual_byte_groupings)] // grouped as labels and values
     fn what_does_not_fit() {
         // Six separators and then label 10 with no room for its value.
         assert_eq!(read(&[0xEEE_EEEA]), Err(Refusal::Content));
