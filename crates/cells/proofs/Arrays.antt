@@ -4,7 +4,7 @@ use native.Mathlib.Omega.{arith}
 use mathlib.Core.Path.{_≡_, refl, ap, ap₂, subst, _∙_}
 use mathlib.Core.Bool.{Bool, true, _&&_}
 use mathlib.Core.List.{List, [], _∷_, _++_}
-use lib.ListN.{length, take, drop, getD}
+use lib.ListN.{length, take, drop, getD, replicate}
 use lib.Seq.{paste, drop-cons, take-length, take-add, drop-at, length-take-le, getD-take}
 use lib.Dec.{ltb}
 use borrow.Author.Tests.{ltb-true}
@@ -52,3 +52,26 @@ part-of a m s h = ap (drop a) (take-add a m s) ∙ drop-at (take a s) (take m (d
 -- a cell among the first ones is below its limit
 pub cell-below : (ms s : List ℕ) (i : ℕ) → below ms (take (length ms) s) ≡ true → i < length ms → getD s i 0 < getD ms i 0
 cell-below ms s i h b = subst (λ (x : ℕ). x < getD ms i 0) (getD-take (length ms) s i 0 b) (below-at ms (take (length ms) s) i h b)
+
+-- so many cells from a place on, one by one
+unfoldable pub from : ℕ → ℕ → List ℕ → List ℕ
+from zero k s = []
+from (suc n) k s = getD s k 0 ∷ from n (suc k) s
+
+pub cells-from : (n k : ℕ) (s : List ℕ) → k + n ≤ length s → take n (drop k s) ≡ from n k s
+unfolding from
+cells-from zero k s h = refl
+cells-from (suc n) k s h =
+    let b : k < length s = omega arith in
+    ap (take (suc n)) (drop-cons s k 0 b) ∙ ap (λ (l : List ℕ). getD s k 0 ∷ l) (cells-from n (suc k) s (omega arith))
+
+-- numbers below 1 are 0
+pub below-one : (n : ℕ) (vs : List ℕ) → below (replicate n 1) vs ≡ true → vs ≡ replicate n 0
+unfolding below
+below-one zero [] h = refl
+below-one zero (v ∷ vs) h = cc
+below-one (suc n) [] h = cc
+below-one (suc n) (v ∷ vs) h =
+    let b : v < 1 = ltb-true v 1 (and-left (ltb v 1) (below (replicate n 1) vs) h) in
+    let z : v ≡ 0 = omega arith in
+    ap₂ (λ (x : ℕ) (l : List ℕ). x ∷ l) z (below-one n vs (and-right (ltb v 1) (below (replicate n 1) vs) h))
