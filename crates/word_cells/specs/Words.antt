@@ -9,7 +9,7 @@ use Rattle.word.specs.declared.Word.{Word}
 use Rattle.word.specs.declared.Word.the-variants.{Single, First, Later, Tuning, Administration, Index7, Beyond}
 use Rattle.cells.specs.Ranges.{below}
 
--- the kind and the fields, and 0 in the cells without a field; a number that is no word has none
+-- the kind and the fields, and 0 in the cells without a field; all 0 for a number that is no word
 unfoldable pub wordCells : Word → List ℕ
 wordCells (Single duration diversion h) = 0 ∷ duration ∷ diversion ∷ h .direction ∷ h .extent ∷ h .event ∷ h .location ∷ []
 wordCells (First ci h) = 1 ∷ ci ∷ h .direction ∷ h .extent ∷ h .event ∷ h .location ∷ 0 ∷ []
