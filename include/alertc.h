@@ -19,7 +19,7 @@
  * refusals 5, 7 and 8, and the repeat rule's run goes on.
  *
  * Arrays with a size named here (ALERTC_..) may have more cells: the later ones are not looked at and stay as they are. One with fewer cells is
- * refused (15) before all else. Answers are written from the first cell on; the cells after an answer stay as they are.
+ * refused (15) before all else; but a catalogue or lives of another length, fewer or more, are malformed (10). Answers are written from the first cell on; the cells after an answer stay as they are.
  *
  * The caller sees to this: each pointer is not null, is aligned, and points to as many cells as are named beside it; no array that is written
  * overlaps another. Nothing else is asked.

@@ -1,4 +1,5 @@
--- The worked words of document 01, computed from the promise of the call.
+-- Words that leave a message open, and a state that no calls reach, computed from the promise of the call. The worked words of document 01
+-- are in `cases`.
 use mathlib.Core.Path.{_≡_, refl}
 use mathlib.Core.List.{[], _∷_}
 use Rattle.bits.specs.Bits.{bit, num, bits, val, allZero}
@@ -22,7 +23,7 @@ use Rattle.assembler.specs.declared.Answer.the-variants as answer
 use Rattle.assembler.specs.declared.Step.{Step}
 use Rattle.assembler.specs.Held.{contentsOf, stateOf, partialOf, held}
 use Rattle.assembler.specs.Fits.{placeFits, partialFits, fits}
-use Rattle.assembler.specs.Answers.{outcome, readReport, answerOf, reportIn, withReport, withoutReport}
+use Rattle.assembler.specs.Answers.{outcome, readReport, answerOf, reportIn, withoutReport}
 use Rattle.assembler.specs.Step.{stepOf}
 use Rattle.assembler.specs.Calls.{calls}
 
@@ -53,26 +54,6 @@ open401 = Started (record { ci = 2; head = head401; gsi = 0; count = 0; first = 
 
 abbrev pub opening401 : Step
 opening401 = withoutReport open401 answer.Nothing
-
--- a single-group message: the listing's worked input
-pub a-single : calls Empty (0x0B50653039 ∷ []) ≡ withReport report101 ∷ []
-unfolding computing
-a-single = refl
-
--- a message of two groups
-pub a-pair : calls Empty (0x02899101F4 ∷ 0x0243502000 ∷ []) ≡ opening401 ∷ withReport report401 ∷ []
-unfolding computing
-a-pair = refl
-
--- its second group alone is out of turn
-pub second-alone : calls Empty (0x0243502000 ∷ []) ≡ withoutReport Empty (answer.Refused 5) ∷ []
-unfolding computing
-second-alone = refl
-
--- and so is the second group of another continuity index
-pub another-index : calls Empty (0x02899101F4 ∷ 0x0343502000 ∷ []) ≡ opening401 ∷ withoutReport Empty (answer.Refused 5) ∷ []
-unfolding computing
-another-index = refl
 
 -- a tuning word, an administration word, one of CI 7 and a number that is no word leave the message open
 pub other-words : calls open401 (0x1000000001 ∷ 0x0000000002 ∷ 0x0700000003 ∷ 0x2000000000 ∷ [])

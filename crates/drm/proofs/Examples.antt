@@ -1,4 +1,4 @@
--- Units read and written, computed: the lengths of document 01 with TMCHI 0, a header, the signs of an LTO, and whole messages.
+-- Units read and written, computed: a header, the signs of an LTO, and whole messages. Those of document 01 are in `cases`.
 use mathlib.Core.Path.{_≡_, refl}
 use mathlib.Core.List.{[], _∷_}
 use lib.ListN.{replicate}
@@ -29,18 +29,6 @@ writing = tt
 -- TMCHI 0 and Short ID 0
 abbrev bare : drm.Unit
 bare = record { tmchi = 0; id = 0; services = 0; country = 0; ecc = 0; lto = pos 0; system = 0; first = 0; second = 0; third = 0 }
-
-pub length-8 : readUnit (checked (replicate 6 0)) 27 ≡ Taken bare 1
-unfolding reading
-length-8 = refl
-
-pub length-9 : readUnit (checked (replicate 7 0)) 27 ≡ Refused 1
-unfolding reading
-length-9 = refl
-
-pub length-128 : readUnit (checked (replicate 126 0)) 27 ≡ Taken bare 27
-unfolding reading
-length-128 = refl
 
 -- a header whose LTO is an hour and a half to the west, and one system word
 abbrev headed : drm.Unit

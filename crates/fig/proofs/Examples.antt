@@ -1,22 +1,16 @@
--- The worked FIG and the data lengths of document 01, computed.
+-- The worked FIG of document 01 read, and its data lengths, computed.
 use Prim.Native.Nat.{ℕ, zero, suc}
 use mathlib.Core.Path.{_≡_, refl}
 use mathlib.Core.Bool.{cond}
 use mathlib.Core.List.{List, [], _∷_}
 use Rattle.bits.specs.Bits.{bit, num, bits, val, allZero}
-use Rattle.bits.specs.Fields.{flat, words, unpack, pack}
+use Rattle.bits.specs.Fields.{flat, unpack}
 use Rattle.bits.specs.Checks.{unless}
 use Rattle.fig.specs.declared.Reading.the-variants.{Taken}
 use Rattle.fig.specs.Format.{wordWidth}
 use Rattle.fig.specs.Read.{lengthFits, fieldRefusal, headRefusal, dataRefusal, readData, readFig}
-use Rattle.fig.specs.Write.{figBytes}
 
--- the two words of a multi-group message, for TCId 1
-pub a-fig : figBytes (record { d1 = 0; tcid = 1 }) (0x02899101F4 ∷ 0x0243502000 ∷ []) ≡ 0xAB ∷ 0x09 ∷ 0x14 ∷ 0x4C ∷ 0x88 ∷ 0x0F ∷ 0xA0 ∷ 0x90 ∷ 0xD4 ∷ 0x08 ∷ 0x00 ∷ 0x00 ∷ []
-unfolding bit num bits val flat words pack wordWidth figBytes
-a-fig = refl
-
--- and it reads back
+-- the worked FIG of document 01 reads as two words for TCId 1
 pub a-fig-read : readFig (0xAB ∷ 0x09 ∷ 0x14 ∷ 0x4C ∷ 0x88 ∷ 0x0F ∷ 0xA0 ∷ 0x90 ∷ 0xD4 ∷ 0x08 ∷ 0x00 ∷ 0x00 ∷ []) 2 ≡ Taken (record { d1 = 0; tcid = 1 }) 2
 unfolding bit num bits val allZero flat unpack wordWidth fieldRefusal headRefusal dataRefusal unless readData readFig
 a-fig-read = refl
