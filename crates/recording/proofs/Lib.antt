@@ -4,3 +4,5 @@ pub mod Frames
 pub mod Carrying
 pub mod Turns
 pub mod Moving
+pub mod Examples
+pub mod Pieces

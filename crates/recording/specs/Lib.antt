@@ -3,3 +3,4 @@ pub mod Carried
 pub mod Session
 pub mod Listing
 pub mod Input
+pub mod Pieces

@@ -8,6 +8,7 @@ ghost use Rattle.drm.specs.Read.{readUnit};
 ghost use Rattle.recording.specs.Carried.{mostWords, kindOf as Carried·kindOf, held, heldCount, byRds, byFig, byUnit, carriedBy, runAfter};
 use crate::Carried;
 use crate::Reception;
+use crate::Session;
 use crate::framing::little;
 use drm::Unit;
 use fig::Fig;
@@ -22,18 +23,18 @@ pub(crate) fn receive(run: Run, bytes: &[u8], words: &mut [u64]) -> Reception
     ensures { λ r. ⌜ heldCount (r .carried) ≤ mostWords ⌝ }
 {
     let kind = kind_of(bytes);
-    let from = 2;
+    let from = Session::KIND;
     let body = &bytes[from..];
-    if kind == 1 {
+    if kind == Session::RDS {
         return from_rds(run, body, words);
     }
-    if kind == 2 {
+    if kind == Session::FIG {
         return Reception {
             run,
             carried: from_fig(body, words),
         };
     }
-    if kind == 3 {
+    if kind == Session::DRM {
         return Reception {
             run,
             carried: from_drm(body, words),

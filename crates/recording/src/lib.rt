@@ -6,6 +6,7 @@ mod list;
 mod telling;
 
 use assembler::Assembler;
+use lines::line::ROOM;
 use rds::Run;
 
 // What is held between two records.
@@ -58,14 +59,22 @@ pub struct Progress {
 }
 
 impl Session {
-    // A record's bytes after its length, at least and at most, and the bytes of the length.
+    // The bytes of a record's length and of its kind.
+    pub const LENGTH: usize = 2;
+
+    pub const KIND: usize = 2;
+    // The bytes after the length, at least and at most.
     pub const SHORTEST: usize = 2;
 
     pub const LONGEST: usize = 130;
+    // The kinds: an RDS group, a FIG, a DRM data unit.
+    pub const RDS: usize = 1;
 
-    pub const LENGTH: usize = 2;
-    // The most words of a record.
+    pub const FIG: usize = 2;
+
+    pub const DRM: usize = 3;
+    // The most words of a record, and the most text that it gives.
     pub const WORDS: usize = 27;
-    // The most text that a record gives.
-    pub const ROOM: usize = 4590;
+
+    pub const ROOM: usize = Session::WORDS * ROOM;
 }

@@ -85,7 +85,7 @@ impl Session {
         let assembler = self.assembler;
         let run = self.run;
         let records = next(self.records);
-        let mut words = [0u64; 27];
+        let mut words = [0u64; Session::WORDS];
         let reception = receive(run, bytes, &mut words);
         let after = reception.run;
         let carried = reception.carried;
