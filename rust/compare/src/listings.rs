@@ -9,6 +9,9 @@ use crate::sender::{self, Message};
 use crate::tally::{fail, Call};
 use crate::Trial;
 
+/// Lengths of records at the limits, and one that is right but for a carry.
+const LENGTHS: [u16; 8] = [0, 1, 2, 3, 130, 131, 132, 266];
+
 /// The two programs.
 pub struct Programs {
     pub proved: PathBuf,
@@ -96,6 +99,15 @@ impl Trial {
         recording
     }
 
+    /// A whole record of this length, and others after it.
+    fn at_limit(&mut self, length: u16) -> Vec<u8> {
+        let mut recording = length.to_le_bytes().to_vec();
+        recording.extend([1, 0]);
+        recording.resize(2 + usize::from(length.max(2)), 0);
+        recording.extend(self.recording(400));
+        recording
+    }
+
     fn damaged_recording(&mut self, size: usize) -> Vec<u8> {
         let size = self.random.place(size);
         let mut recording = self.recording(size);
@@ -105,7 +117,10 @@ impl Trial {
             1 => recording.push(self.random.number() as u8),
             2 => recording.extend([self.random.pick(&[0, 1, 131, 255]), 0, 1, 0]),
             3 if at < recording.len() => recording[at] = self.random.number() as u8,
-            4 => recording.extend([130, 1, 1, 0]),
+            4 => {
+                let length = self.random.pick(&LENGTHS);
+                recording.extend(self.at_limit(length));
+            }
             _ => {}
         }
         recording
@@ -117,7 +132,8 @@ impl Trial {
         for i in 0..count {
             let recording = match i {
                 0 => vec![],
-                _ if i % 40 == 1 => self.recording(1_000_000),
+                _ if i <= LENGTHS.len() => self.at_limit(LENGTHS[i - 1]),
+                _ if i % 40 == 20 => self.recording(1_000_000),
                 _ => {
                     let size = self.random.pick(&[40, 400, 4000]);
                     self.damaged_recording(size)
@@ -127,19 +143,18 @@ impl Trial {
             let proved = run(&programs.proved, &path)?;
             let second = run(&programs.second, &path)?;
             if proved != second {
-                let text = |(status, listing): &(Option<i32>, Vec<u8>)| {
-                    (*status, String::from_utf8_lossy(listing).into_owned())
-                };
                 println!("the recording is kept at {}", path.display());
-                let (proved, second) = (text(&proved), text(&second));
-                let differ = proved.1.lines().zip(second.1.lines());
-                let first = differ.enumerate().find(|(_, (a, b))| a != b);
-                fail(
-                    "Listing: first line that differs",
-                    &first,
-                    &proved.0,
-                    &second.0,
-                );
+                let [proved, second] = [&proved, &second].map(|(status, listing)| {
+                    let listing = String::from_utf8_lossy(listing);
+                    let lines: Vec<_> = listing.lines().map(str::to_owned).collect();
+                    (*status, lines)
+                });
+                let mut lines = proved.1.iter().zip(&second.1);
+                let same = lines.position(|(a, b)| a != b);
+                let same = same.unwrap_or(proved.1.len().min(second.1.len()));
+                let next = |(status, lines): &(_, Vec<String>)| (*status, lines.get(same).cloned());
+                let what = "Listing: exit status and first line that differs, after so many";
+                fail(what, &same, &next(&proved), &next(&second));
             }
             self.tally.count(Call::Listing, 0);
         }
