@@ -8,7 +8,7 @@ use lib.Seq.{drop-cons, take-suc, take-suc-set}
 use Rattle.content.specs.declared.item.Item.{Item}
 use Rattle.cells.specs.Reports.{itemCells, itemsFrom, itemLimits}
 
-pub label-limit : (n i : ℕ) → i < n → getD (itemLimits n) (2 * i) 0 ≡ 256
+pub label-limit : (n i : ℕ) → i < n → getD (itemLimits n) (2 * i) 0 ≡ 65536
 unfolding itemLimits
 label-limit zero i h = omega arith
 label-limit (suc n) zero h = refl

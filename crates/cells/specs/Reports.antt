@@ -44,7 +44,7 @@ leadLimits = 2 ∷ 65536 ∷ 65536 ∷ 256 ∷ 256 ∷ 256 ∷ 256 ∷ 29 ∷ []
 
 unfoldable pub itemLimits : ℕ → List ℕ
 itemLimits zero = []
-itemLimits (suc n) = 256 ∷ 65536 ∷ itemLimits n
+itemLimits (suc n) = 65536 ∷ 65536 ∷ itemLimits n
 
 unfoldable pub reportLimits : List ℕ
 reportLimits = leadLimits ++ itemLimits limit

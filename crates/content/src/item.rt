@@ -4,13 +4,14 @@ ghost use Rattle.content.specs.Packing.{itemFits, zeroItem};
 use crate::width::width_of;
 
 pub struct Item {
-    pub label: u8,
+    // As wide as the value: a place then has no padding, and items are copied whole.
+    pub label: u16,
     pub value: u16,
 }
 
 impl Item {
     // The label that a sub-label follows: no item has it.
-    pub const SUBLABELLED: u8 = 15;
+    pub const SUBLABELLED: u16 = 15;
 
     // Bits of a label.
     pub const LABEL_WIDTH: usize = 4;

@@ -61,7 +61,7 @@ impl Rest {
         if self.left < Item::LABEL_WIDTH {
             return Taken::Refused(7);
         }
-        let label = self.head(Item::LABEL_WIDTH) as u8;
+        let label = self.head(Item::LABEL_WIDTH) as u16;
         if label == Item::SUBLABELLED {
             return Taken::Refused(8);
         }

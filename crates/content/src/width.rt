@@ -6,7 +6,7 @@ ghost use Rattle.content.specs.Widths.{width, sublabelled};
 const WIDTHS: [usize; 15] = [3, 3, 5, 5, 5, 8, 8, 8, 8, 11, 16, 16, 16, 16, 0];
 
 // The bits of a label's value.
-pub fn width_of(label: u8) -> usize
+pub fn width_of(label: u16) -> usize
     requires { ⌜ label < sublabelled ⌝ }
     ensures { λ r. ⌜ (r ≡ width label) × (r ≤ 16) ⌝ }
 {

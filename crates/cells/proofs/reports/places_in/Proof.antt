@@ -21,7 +21,7 @@ long : (cells : List ℕ) → below (itemLimits limit) cells ≡ true → length
 unfolding itemLimits
 long cells h = below-length (itemLimits limit) cells h
 
-label-below : (cells : List ℕ) (i : ℕ) → below (itemLimits limit) cells ≡ true → i < limit → getD cells (2 * i) 0 < 256
+label-below : (cells : List ℕ) (i : ℕ) → below (itemLimits limit) cells ≡ true → i < limit → getD cells (2 * i) 0 < 65536
 unfolding itemLimits
 label-below cells i h b = omega (arith, below-at (itemLimits limit) cells (2 * i) h (omega arith), label-limit limit i b)
 
