@@ -3,7 +3,7 @@ use Prim.Native.Nat.{ℕ, suc, _+_, _-_, _*_, _/_, _≤_, _<_}
 use native.Mathlib.Numerals.{add-one}
 use native.Mathlib.Omega.{arith}
 use mathlib.Core.Path.{_≡_, sym, ap, _∙_}
-use mathlib.Core.Bool.{Bool, true, false, _&&_}
+use mathlib.Core.Bool.{Bool, true, false, _&&_, and-assoc, and-true}
 use mathlib.Core.List.{List, [], _∷_}
 use lib.ListN.{length, take, drop, getD, length-take, length-drop}
 use lib.Seq.{drop-drop, drop-cons, drop-length, getD-take, getD-drop}
@@ -79,3 +79,10 @@ module _ (p : ℕ → Bool) (l : List ℕ) (i : ℕ) where
   pub entry-end : length l ≤ i → i ≤ length l → allOf p (drop i l) ≡ true
   unfolding allOf
   entry-end a b = let e : i ≡ length l = omega arith in ap (λ (k : ℕ). allOf p (drop k l)) e ∙ ap (allOf p) (drop-length l)
+
+  -- taken together with what is known of those before
+  pub entry-after : (b : Bool) → i < length l → b && allOf p (drop i l) ≡ (b && p (getD l i 0)) && allOf p (drop (i + 1) l)
+  entry-after b h = ap (λ (c : Bool). b && c) (entry-next h) ∙ sym (and-assoc b (p (getD l i 0)) (allOf p (drop (i + 1) l)))
+
+  pub entry-done : (b : Bool) → length l ≤ i → i ≤ length l → b && allOf p (drop i l) ≡ b
+  entry-done b past within = ap (λ (c : Bool). b && c) (entry-end past within) ∙ and-true b

@@ -3,15 +3,13 @@ ghost use mathlib.Core.Path.{_≡_};
 ghost use Rattle.table.specs.Lent.{entryFits, catalogueFits, livesFit};
 use crate::Table;
 
-// Whether an entry's class is 0 exactly if its kind is unknown or null, and nothing stands above its duration type.
+// Whether an entry's class is 0 exactly if its kind is unknown (0) or null (3), and nothing stands above its duration type. The other
+// kinds are 1 and 2: one more has its upper bit.
 fn entry_fits(x: u16) -> bool
     ensures { λ b. ⌜ b ≡ entryFits x ⌝ }
 {
-    let class = x % 64;
-    let kind = x / 64 % 4;
-    (x < 512)
-        & (((class == 0) & ((kind == 0) | (kind == 3)))
-            | ((class != 0) & ((kind == 1) | (kind == 2))))
+    let acts = (x / 64 + 1) / 2 % 2 == 1;
+    (x < 512) & ((x % 64 != 0) == acts)
 }
 
 // Whether there are 2,048 entries and each fits.
@@ -21,14 +19,13 @@ pub(crate) fn catalogue_fits(c: &[u16]) -> bool
     if c.len() != Table::EVENTS {
         return false;
     }
+    let mut fits = true;
     let mut i = 0;
     while i < c.len() {
-        if !entry_fits(c[i]) {
-            return false;
-        }
+        fits = fits & entry_fits(c[i]);
         i += 1;
     }
-    true
+    fits
 }
 
 // Whether there are 16 lives of at most 10,080 minutes.
