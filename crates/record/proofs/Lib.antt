@@ -1,6 +1,7 @@
 pub mod Filling
 pub mod Ranges
 pub mod Bytes
+pub mod Spare
 pub mod Steps
 pub mod Kept
 pub mod FreeFits

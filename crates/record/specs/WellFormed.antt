@@ -39,9 +39,12 @@ rangesFit r = allBelow (λ j. byteFits (byteAt r 0) j (byteAt r j)) recordSize
 abbrev pub contentBits : List ℕ → ℕ
 contentBits r = groupBits * (groupsIn r - 1)
 
--- the content bits after those of its groups
+-- the content bits after those of so many later groups, and after those of its own
+abbrev pub spareAfter : ℕ → List ℕ → List Bool
+spareAfter later r = stretch (8 * contentPlace + groupBits * later) (longest - groupBits * later) (flat 8 r)
+
 abbrev pub spareIn : List ℕ → List Bool
-spareIn r = stretch (8 * contentPlace + contentBits r) (longest - contentBits r) (flat 8 r)
+spareIn r = spareAfter (groupsIn r - 1) r
 
 -- a used record ends at a minute other than 0, and its content is zero after the bits of its groups
 unfoldable pub restFits : List ℕ → Bool

@@ -1,18 +1,16 @@
 // Whether the bytes of a record are in their ranges.
 ghost use mathlib.Core.Path.{_≡_};
 ghost use mathlib.Core.Bool.{true};
+ghost use Prim.Native.Nat.{_<_};
 ghost use lib.ListN.{length};
+ghost use Rattle.bits.specs.Bits.{allZero};
 ghost use Rattle.record.specs.Layout.{recordSize};
-ghost use Rattle.record.specs.WellFormed.{inRange, rangesFit, restFits};
+ghost use Rattle.record.specs.WellFormed.{inRange, rangesFit, spareAfter, restFits};
 use crate::Record;
 use crate::freeing::expiry;
-use bits::zero::zeros_at;
-use content::content::Content;
+use bits::bytes::load;
 
 impl Record {
-    // The bits before the content.
-    pub const CONTENT: usize = 128;
-
     // The least and the greatest value of each byte of a used record.
     pub const LOWS: [u8; 32] = [
         1,
@@ -83,6 +81,17 @@ impl Record {
         63,
         15,
     ];
+
+    // The content bits after those of none to four later groups: those in bytes 16 to 23, and those in bytes 24 to 31.
+    const SPARE_HIGH: [u64; 5] = [0xFFFF_FFFF_FFFF_FFFF, 0xF_FFFF_FFFF, 0xFF, 0, 0];
+
+    const SPARE_LOW: [u64; 5] = [
+        0xFFFF_FFFF_FFFF_0000,
+        0xFFFF_FFFF_FFFF_0000,
+        0xFFFF_FFFF_FFFF_0000,
+        0xFFF_FFFF_0000,
+        0,
+    ];
 }
 
 // Whether a byte may be b in a record whose byte 0 is used: zero in a free record, else from low to high.
@@ -104,7 +113,18 @@ pub fn rest_fits(r: &[u8]) -> bool
     if r[0] == 0 {
         return true;
     }
-    let groups = r[1] as usize;
-    let used = Content::GROUP * (groups - 1);
-    (expiry(r) != 0) & zeros_at(r, Record::CONTENT + used, Content::LONGEST - used)
+    let later = r[1] as usize - 1;
+    (expiry(r) != 0) & spare_zero(r, later)
+}
+
+// Whether the content bits after those of so many later groups are all zero.
+fn spare_zero(r: &[u8], later: usize) -> bool
+    requires { ⌜ (length (now r) ≡ recordSize) × (later < 5) ⌝ }
+    ensures { λ b. ⌜ b ≡ allZero (spareAfter later (now (r .entry))) ⌝ }
+{
+    let high = load(&r[16..24]);
+    let low = load(&r[24..32]);
+    let highs = Record::SPARE_HIGH;
+    let lows = Record::SPARE_LOW;
+    (high & highs[later] == 0) & (low & lows[later] == 0)
 }

@@ -1,4 +1,4 @@
--- The groups are one to five, so what is tested lies in the record.
+-- The groups are one to five, so the later ones are at most four.
 use Prim.Native.Nat.{ℕ}
 use mathlib.Core.Path.{sym, ap, ap₂, _∙_}
 use mathlib.Core.Bool.{Bool, not, _&&_, _||_}
@@ -23,35 +23,29 @@ returns c =
     let r = c .before .before .before .args .r .now in
     sym (ap (λ (b : Bool). b || not (eqb (expiryIn r) 0) && allZero (spareIn r)) (eq-eqb (getD r 0 0) 0 (c .if1 .taken)))
 
-shared-slice-read-groups : tie.Need-shared-slice-read-groups
-shared-slice-read-groups c = search needs
+shared-slice-read-later : tie.Need-shared-slice-read-later
+shared-slice-read-later c = search needs
 
-cast-groups : tie.Need-cast-groups
-cast-groups c = omega (arith, c .shared-slice-known3 .given 1)
+cast-later : tie.Need-cast-later
+cast-later c = omega (arith, c .shared-slice-known3 .given 1)
 
-sub-used : tie.Need-sub-used
-sub-used c = groups-range (c .before .before .before .before .args .r .now) (c .before .before .before .before .pre .1) (c .before .if1 .left) .0
-
-mul-used : tie.Need-mul-used
-mul-used c = omega (arith, groups-range (c .before .before .before .before .args .r .now) (c .before .before .before .before .pre .1) (c .before .if1 .left))
+sub-later : tie.Need-sub-later
+sub-later c = groups-range (c .before .before .before .before .args .r .now) (c .before .before .before .before .pre .1) (c .before .if1 .left) .0
 
 expiry-requires : tie.Need-expiry-requires
 expiry-requires c κs = search needs
 
-add-zeros-at : tie.Need-add-zeros-at
-add-zeros-at c = omega (arith, groups-range (c .before .before .before .before .before .args .r .now) (c .before .before .before .before .before .pre .1) (c .before .before .if1 .left))
-
-sub-zeros-at : tie.Need-sub-zeros-at
-sub-zeros-at c = omega (arith, groups-range (c .before .before .before .before .before .args .r .now) (c .before .before .before .before .before .pre .1) (c .before .before .if1 .left))
-
-zeros-at-requires : tie.Need-zeros-at-requires
-zeros-at-requires c κs = omega (arith, groups-range (c .before .before .before .before .before .args .r .now) (c .before .before .before .before .before .pre .1) (c .before .before .if1 .left))
+spare-zero-requires : tie.Need-spare-zero-requires
+spare-zero-requires c κs =
+    let b = c .before .before .before .before .before in
+    let few = groups-range (b .args .r .now) (b .pre .1) (c .before .before .if1 .left) .1 in
+    (b .pre .0, omega arith)
 
 returns-2 : tie.Need-returns-2
 unfolding restFits
 returns-2 c =
     let r = c .before .before .before .before .before .before .args .r .now in
-    ap₂ (λ (n : ℕ) (z : Bool). not (eqb n 0) && z) (c .before .expiry .ensures) (c .zeros-at .ensures)
+    ap₂ (λ (n : ℕ) (z : Bool). not (eqb n 0) && z) (c .before .expiry .ensures) (c .spare-zero .ensures)
     ∙ sym (ap (λ (b : Bool). b || not (eqb (expiryIn r) 0) && allZero (spareIn r)) (ne-eqb (getD r 0 0) 0 (c .before .before .before .if1 .left)))
 
 pub rest-fits-spec : {M : Type 1} → statement M
@@ -60,12 +54,9 @@ rest-fits-spec =
     (tie.spec
     shared-slice-read-if1
     returns
-    shared-slice-read-groups
-    cast-groups
-    sub-used
-    mul-used
+    shared-slice-read-later
+    cast-later
+    sub-later
     expiry-requires
-    add-zeros-at
-    sub-zeros-at
-    zeros-at-requires
+    spare-zero-requires
     returns-2)
