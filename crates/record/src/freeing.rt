@@ -3,7 +3,9 @@ ghost use mathlib.Core.Path.{_≡_};
 ghost use lib.ListN.{length};
 ghost use Rattle.bits.specs.Bits.{num};
 ghost use Rattle.record.specs.Layout.{recordSize, freeRecord, expiryIn, locationIn};
+ghost use Rattle.record.specs.declared.Rule.the-variants.{Expired, Matching};
 ghost use Rattle.record.specs.Rules.{sameKey, sameService, falls, freedIf};
+use crate::Freed;
 use crate::Key;
 use crate::Rule;
 use crate::Service;
@@ -36,10 +38,12 @@ pub fn same_key(r: &[u8], key: Key) -> bool
     requires { ⌜ length (now r) ≡ recordSize ⌝ }
     ensures { λ b. ⌜ b ≡ sameKey key (now (r .entry)) ⌝ }
 {
+    if location(r) != key.location {
+        return false;
+    }
     let service = key.service;
     let direction = key.direction;
-    same_service(r, service)
-        & ((location(r) == key.location) & ((r[8] == direction) & (r[30] == key.class)))
+    same_service(r, service) & ((r[8] == direction) & (r[30] == key.class))
 }
 
 // Whether the record is used and the rule frees it.
@@ -65,6 +69,17 @@ pub fn free_if(r: &mut [u8], rule: Rule) -> usize
     } else {
         0
     }
+}
+
+// Frees the record if it has expired by the minute, and else if it matches, and answers how many were freed by each.
+pub fn free_gone(r: &mut [u8], minute: u32, key: Key) -> Freed
+    requires { ⌜ length (now r) ≡ recordSize ⌝ }
+    ensures { λ f. ⌜ (f .expired ≡ num (falls (Expired minute) (now (r .entry)))) × (f .matched ≡ num (falls (Matching key) (freedIf (falls (Expired minute)) (now (r .entry))))) ⌝ }
+    ensures { λ _. ⌜ now (r .exit) ≡ freedIf (falls (Matching key)) (freedIf (falls (Expired minute)) (now (r .entry))) ⌝ }
+{
+    let expired = free_if(r, Rule::Expired(minute));
+    let matched = free_if(r, Rule::Matching(key));
+    Freed { expired, matched }
 }
 
 // Sets every byte to zero.

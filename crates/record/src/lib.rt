@@ -28,6 +28,12 @@ pub enum Rule {
     Matching(Key),
 }
 
+// How many records a call freed as expired and as matching.
+pub struct Freed {
+    pub expired: usize,
+    pub matched: usize,
+}
+
 // Whether a record holds a report.
 pub enum Answer {
     Free,

@@ -1,17 +1,18 @@
 -- Steps 1 and 2 as one change of each record, and what they count, on the table at entry.
-use Prim.Native.Nat.{ℕ, suc, _+_, _≤_, _<_}
+use Prim.Native.Nat.{ℕ, suc, _+_, _%_, _≤_, _<_}
 use native.Mathlib.Omega.{arith}
-use mathlib.Core.Path.{_≡_, refl, ap₂}
+use mathlib.Core.Path.{_≡_, refl, sym, ap, ap₂, _∙_}
 use mathlib.Core.Bool.{Bool, true, false, cond, not, _&&_, _||_}
 use mathlib.Core.List.{List, [], _∷_, map}
 use lib.ListN.{length}
 use Rattle.bits.specs.Bits.{num}
 use Rattle.record.specs.declared.Key.{Key}
-use Rattle.record.specs.Layout.{freeRecord}
+use Rattle.record.specs.Layout.{recordSize, freeRecord}
 use Rattle.record.specs.Rules.{falls, freedIf}
-use Rattle.table.specs.Records.{countIf, firstOf}
+use Rattle.table.specs.Records.{records, joined, countIf, firstOf, freeWhere, countWhere}
 use Rattle.table.specs.Expire.{expired}
-use Rattle.table.specs.Take.{matching}
+use Rattle.table.specs.Take.{matching, afterBoth, matchedIn}
+use Rattle.table.proofs.Storing.{records-freed}
 
 -- the records that a cancelling or an ordinary message frees: expired or matching
 abbrev pub gone : ℕ → Key → List ℕ → Bool
@@ -23,7 +24,7 @@ matched m k r = not (expired m r) && matching k r
 
 module _ (m : ℕ) (k : Key) where
   -- freed by one step after the other, or at once
-  freed-at-once : (r : List ℕ) → freedIf (matching k) (freedIf (expired m) r) ≡ freedIf (gone m k) r
+  pub freed-at-once : (r : List ℕ) → freedIf (matching k) (freedIf (expired m) r) ≡ freedIf (gone m k) r
   unfolding freedIf falls
   freed-at-once r = by-test (expired m r)
     where
@@ -35,7 +36,7 @@ module _ (m : ℕ) (k : Key) where
   all-at-once [] = refl
   all-at-once (r ∷ rs) = ap₂ (λ (x : List ℕ) (xs : List (List ℕ)). x ∷ xs) (freed-at-once r) (all-at-once rs)
 
-  matched-once : (r : List ℕ) → matching k (freedIf (expired m) r) ≡ matched m k r
+  pub matched-once : (r : List ℕ) → matching k (freedIf (expired m) r) ≡ matched m k r
   unfolding freedIf falls
   matched-once r = by-test (expired m r)
     where
@@ -47,6 +48,15 @@ module _ (m : ℕ) (k : Key) where
   unfolding countIf
   count-matched [] = refl
   count-matched (r ∷ rs) = ap₂ (λ (b : Bool) (n : ℕ). num b + n) (matched-once r) (count-matched rs)
+
+  module _ (t : List ℕ) (whole : length t % recordSize ≡ 0) where
+    pub both-at-once : freeWhere (gone m k) t ≡ afterBoth m k t
+    unfolding freeWhere afterBoth
+    both-at-once = ap joined (sym (ap (map (freedIf (matching k))) (records-freed (expired m) t whole) ∙ all-at-once (records t)))
+
+    pub matched-counted : matchedIn m k t ≡ countWhere (matched m k) t
+    unfolding matchedIn countWhere
+    matched-counted = ap (countIf (matching k)) (records-freed (expired m) t whole) ∙ count-matched (records t)
 
 -- a count of 0 says that there is no first one, and any other that there is
 pub first-none : (p : List ℕ → Bool) (rs : List (List ℕ)) → countIf p rs ≡ 0 → length rs ≤ firstOf p rs

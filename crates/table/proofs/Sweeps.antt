@@ -95,10 +95,10 @@ module _ (p : List ℕ → Bool) (i : ℕ) (t₀ t : List ℕ) (inside : i < len
       ∙ ap₂ (λ (x y : List ℕ). (before ++ x) ++ y) (h ∙ ap (freedIf p) same-record) (drop-drop recordSize (i * recordSize) t₀ ∙ ap (λ (n : ℕ). drop n t₀) a)
       ∙ ap (λ (l : List ℕ). l ++ drop ((i + 1) * recordSize) t₀) (sym (ap (λ (rs : List (List ℕ)). joined (map (freedIf p) rs)) (ap (λ (n : ℕ). chunks n t₀) (add-one i) ∙ chunks-snoc i t₀) ∙ joined-snoc (freedIf p) (chunks i t₀) (nth t₀ i)))
 
-  pub count-next : (n : ℕ) → n ≡ num (p (take (i * recordSize + recordSize - i * recordSize) (drop (i * recordSize) t))) → countIf p (chunks i t₀) + n ≡ countIf p (chunks (i + 1) t₀)
-  count-next n h =
-      ap (λ (m : ℕ). countIf p (chunks i t₀) + m) (h ∙ ap (λ (r : List ℕ). num (p r)) same-record)
-      ∙ sym (ap (λ (m : ℕ). countIf p (chunks m t₀)) (add-one i) ∙ ap (countIf p) (chunks-snoc i t₀) ∙ count-snoc p (chunks i t₀) (nth t₀ i))
+  pub count-next : (q : List ℕ → Bool) (n : ℕ) → n ≡ num (q (take (i * recordSize + recordSize - i * recordSize) (drop (i * recordSize) t))) → countIf q (chunks i t₀) + n ≡ countIf q (chunks (i + 1) t₀)
+  count-next q n h =
+      ap (λ (m : ℕ). countIf q (chunks i t₀) + m) (h ∙ ap (λ (r : List ℕ). num (q r)) same-record)
+      ∙ sym (ap (λ (m : ℕ). countIf q (chunks m t₀)) (add-one i) ∙ ap (countIf q) (chunks-snoc i t₀) ∙ count-snoc q (chunks i t₀) (nth t₀ i))
 
 -- after all of them
 pub swept-all : (p : List ℕ → Bool) (i : ℕ) (t : List ℕ) → length t % recordSize ≡ 0 → i ≡ length t / recordSize → swept p i t ≡ freeWhere p t

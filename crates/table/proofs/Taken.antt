@@ -18,12 +18,12 @@ use Rattle.table.specs.declared.Answer.the-variants.{Stored, Refused}
 use Rattle.table.specs.Records.{records, countIf, firstOf, freeWhere, countWhere, stored}
 use Rattle.table.specs.Lent.{classOf, kindOf}
 use Rattle.table.specs.Expire.{step, expired}
-use Rattle.table.specs.Take.{vacant, matching, matchedIn, afterBoth, nullTable, cancellingTable, entryOf, keyOf, lifeOf, recordFor, refusalOf, takeStep, takeTable}
-use Rattle.table.proofs.Storing.{records-freed, place-is}
+use Rattle.table.specs.Take.{vacant, matchedIn, afterBoth, nullTable, cancellingTable, entryOf, keyOf, lifeOf, recordFor, refusalOf, takeStep, takeTable}
+use Rattle.table.proofs.Storing.{place-is}
 use Rattle.table.proofs.Lents.{lent-whole}
 use Rattle.table.proofs.Takes.{refused-take, ordinary, cancelling, null, no-room, has-room}
 use Rattle.table.proofs.Changes.{both-steps, length-records, length-both}
-use Rattle.table.proofs.Gone.{gone, matched, all-at-once, count-matched, first-none, first-some}
+use Rattle.table.proofs.Gone.{gone, matched, all-at-once, matched-counted, first-none, first-some}
 use Rattle.table.proofs.Accepted.{Accepted, accepted}
 
 module _ (t c l : List ℕ) (last : ℕ) (a : Arrival) (lto : ℤ) where
@@ -57,8 +57,8 @@ module _ (t c l : List ℕ) (last : ℕ) (a : Arrival) (lto : ℤ) where
 
     -- steps 1 and 2
     pub matched-is : matchedIn minute key t ≡ countIf (matched minute key) (records t)
-    unfolding matchedIn countWhere
-    matched-is = ap (countIf (matching key)) (records-freed (expired minute) t whole) ∙ count-matched minute key (records t)
+    unfolding countWhere
+    matched-is = matched-counted minute key t whole
 
     pub both-is : records (afterBoth minute key t) ≡ map (freedIf (gone minute key)) (records t)
     both-is = both-steps minute key t whole ∙ all-at-once minute key (records t)

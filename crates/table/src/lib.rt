@@ -1,4 +1,5 @@
 // The message table: lent bytes, one record after the other. Reports are taken, records expire and are read.
+mod both;
 mod expire;
 mod lent;
 mod read;

@@ -13,6 +13,7 @@ use crate::Answer;
 use crate::Arrival;
 use crate::Step;
 use crate::Table;
+use crate::both::sweep_both;
 use crate::lent::catalogue_fits;
 use crate::lent::lives_fit;
 use crate::search::find_place;
@@ -140,11 +141,13 @@ fn take_cancelling(t: &mut [u8], minute: Utc, key: Key) -> Step
     ensures { λ s. ⌜ s ≡ cancellingStep (now (t .entry)) (minute .0) key ⌝ }
     ensures { λ _. ⌜ now (t .exit) ≡ cancellingTable (now (t .entry)) (minute .0) key ⌝ }
 {
-    let expired = sweep(t, Rule::Expired(minute.0));
-    let matched = sweep(t, Rule::Matching(key));
+    let freed = sweep_both(t, minute.0, key);
     Step {
         last: minute,
-        answer: Answer::Freed { expired, matched },
+        answer: Answer::Freed {
+            expired: freed.expired,
+            matched: freed.matched,
+        },
     }
 }
 
@@ -165,15 +168,14 @@ fn take_ordinary(
     if t.len() / Record::SIZE <= place {
         return refused(last, 14);
     }
-    let expired = sweep(t, Rule::Expired(minute.0));
-    let matched = sweep(t, Rule::Matching(key));
+    let freed = sweep_both(t, minute.0, key);
     let service = key.service;
     put_at(t, place, report, service, key.class, expiry);
     Step {
         last: minute,
         answer: Answer::Stored {
-            expired,
-            matched,
+            expired: freed.expired,
+            matched: freed.matched,
             place,
         },
     }

@@ -74,7 +74,7 @@ loop-again c =
     let h : l .i < length t₀ / recordSize = omega arith in (
       omega arith,
       sweep-next p (l .i) t₀ (l .t) h (l .inv .1) (f .last .0) (f .ensures .1),
-      ap (λ (n : ℕ). n + f .result) (l .inv .2) ∙ count-next p (l .i) t₀ (l .t) h (l .inv .1) (f .result) (f .ensures .0),
+      ap (λ (n : ℕ). n + f .result) (l .inv .2) ∙ count-next p (l .i) t₀ (l .t) h (l .inv .1) p (f .result) (f .ensures .0),
     )
 
 same-length : tie.Need-same-length Inv-loop μ-loop
