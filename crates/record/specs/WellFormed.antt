@@ -1,7 +1,7 @@
 -- The well-formed records (document 01, "The message table").
-use Prim.Native.Nat.{ℕ, zero, suc, _+_, _-_, _*_}
+use Prim.Native.Nat.{ℕ, zero, suc, _+_, _-_, _*_, _^_}
 use mathlib.Core.Bool.{Bool, true, cond, not, _&&_, _||_}
-use mathlib.Core.List.{List, [], _∷_}
+use mathlib.Core.List.{List, [], _∷_, _++_}
 use lib.ListN.{getD}
 use lib.Dec.{eqb, leb}
 use Rattle.bits.specs.Bits.{allZero}
@@ -39,10 +39,18 @@ rangesFit r = allBelow (λ j. byteFits (byteAt r 0) j (byteAt r j)) recordSize
 abbrev pub contentBits : List ℕ → ℕ
 contentBits r = groupBits * (groupsIn r - 1)
 
--- the content bits after those of so many later groups, and after those of its own
+-- the content bits after those of so many later groups
 abbrev pub spareAfter : ℕ → List ℕ → List Bool
 spareAfter later r = stretch (8 * contentPlace + groupBits * later) (longest - groupBits * later) (flat 8 r)
 
+-- its masks: of the first 64 content bits, of the next 32 and of the last 16, for none to four later groups
+abbrev pub masksAfter : ℕ → List ℕ
+masksAfter later = (2 ^ (64 - groupBits * later) - 1) ∷ (2 ^ (32 - (groupBits * later - 64)) - 1) ∷ (2 ^ (16 - (groupBits * later - 96)) - 1) ∷ []
+
+unfoldable pub spareMasks : List ℕ
+spareMasks = masksAfter 0 ++ (masksAfter 1 ++ (masksAfter 2 ++ (masksAfter 3 ++ masksAfter 4)))
+
+-- and after those of its own
 abbrev pub spareIn : List ℕ → List Bool
 spareIn r = spareAfter (groupsIn r - 1) r
 

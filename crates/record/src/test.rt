@@ -5,7 +5,7 @@ ghost use Prim.Native.Nat.{_<_};
 ghost use lib.ListN.{length};
 ghost use Rattle.bits.specs.Bits.{allZero};
 ghost use Rattle.record.specs.Layout.{recordSize};
-ghost use Rattle.record.specs.WellFormed.{inRange, rangesFit, spareAfter, restFits};
+ghost use Rattle.record.specs.WellFormed.{inRange, rangesFit, spareAfter, spareMasks, restFits};
 use crate::Record;
 use crate::freeing::expiry;
 use bits::bytes::load;
@@ -82,14 +82,22 @@ impl Record {
         15,
     ];
 
-    // The content bits after those of none to four later groups: those in bytes 16 to 23, and those in bytes 24 to 31.
-    const SPARE_HIGH: [u64; 5] = [0xFFFF_FFFF_FFFF_FFFF, 0xF_FFFF_FFFF, 0xFF, 0, 0];
-
-    const SPARE_LOW: [u64; 5] = [
-        0xFFFF_FFFF_FFFF_0000,
-        0xFFFF_FFFF_FFFF_0000,
-        0xFFFF_FFFF_FFFF_0000,
-        0xFFF_FFFF_0000,
+    // For none to four later groups, the content bits after theirs: in bytes 16 to 23, in bytes 24 to 27 and in bytes 28 and 29.
+    pub const SPARE: [u64; 15] = [
+        0xFFFF_FFFF_FFFF_FFFF,
+        0xFFFF_FFFF,
+        0xFFFF,
+        0xF_FFFF_FFFF,
+        0xFFFF_FFFF,
+        0xFFFF,
+        0xFF,
+        0xFFFF_FFFF,
+        0xFFFF,
+        0,
+        0xFFF,
+        0xFFFF,
+        0,
+        0,
         0,
     ];
 }
@@ -105,26 +113,27 @@ pub fn byte_fits(used: u8, low: u8, high: u8, b: u8) -> bool
     }
 }
 
-// Whether a record whose bytes are in their ranges is free, or has an expiry and no content bit after those of its groups.
-pub fn rest_fits(r: &[u8]) -> bool
-    requires { ⌜ (length (now r) ≡ recordSize) × (rangesFit (now r) ≡ true) ⌝ }
+// Whether a record whose bytes are in their ranges is free, or has an expiry and no content bit after those of its groups; the masks
+// are lent, so that a pass over many records makes them once.
+pub fn rest_fits(r: &[u8], masks: &[u64]) -> bool
+    requires { ⌜ (length (now r) ≡ recordSize) × (rangesFit (now r) ≡ true) × (now masks ≡ spareMasks) ⌝ }
     ensures { λ b. ⌜ b ≡ restFits (now (r .entry)) ⌝ }
 {
     if r[0] == 0 {
         return true;
     }
     let later = r[1] as usize - 1;
-    (expiry(r) != 0) & spare_zero(r, later)
+    (expiry(r) != 0) & spare_zero(r, masks, later)
 }
 
 // Whether the content bits after those of so many later groups are all zero.
-fn spare_zero(r: &[u8], later: usize) -> bool
-    requires { ⌜ (length (now r) ≡ recordSize) × (later < 5) ⌝ }
+fn spare_zero(r: &[u8], masks: &[u64], later: usize) -> bool
+    requires { ⌜ (length (now r) ≡ recordSize) × (now masks ≡ spareMasks) × (later < 5) ⌝ }
     ensures { λ b. ⌜ b ≡ allZero (spareAfter later (now (r .entry))) ⌝ }
 {
     let high = load(&r[16..24]);
-    let low = load(&r[24..32]);
-    let highs = Record::SPARE_HIGH;
-    let lows = Record::SPARE_LOW;
-    (high & highs[later] == 0) & (low & lows[later] == 0)
+    let middle = load(&r[24..28]);
+    let low = load(&r[28..30]);
+    let k = 3 * later;
+    (high & masks[k] == 0) & ((middle & masks[k + 1] == 0) & (low & masks[k + 2] == 0))
 }

@@ -32,6 +32,7 @@ fn records_fit(t: &[u8]) -> bool
     let n = t.len() / Record::SIZE;
     let lows = Record::LOWS;
     let highs = Record::HIGHS;
+    let masks = Record::SPARE;
     let mut i = 0;
     'records: loop {
         if i == n {
@@ -47,7 +48,7 @@ fn records_fit(t: &[u8]) -> bool
             }
             j += 1;
         }
-        if !rest_fits(&t[a..e]) {
+        if !rest_fits(&t[a..e], &masks) {
             break 'records false;
         }
         i += 1;

@@ -6,7 +6,7 @@ use mathlib.Core.Bool.{Bool, true, false, _&&_}
 use lib.ListN.{length, drop, getD}
 use borrow.Author.Tests.{not-true, not-false}
 use Rattle.record.specs.Layout.{recordSize}
-use Rattle.record.specs.WellFormed.{lows, highs, byteFits, allBelow, rangesFit, restFits, wellFormed}
+use Rattle.record.specs.WellFormed.{lows, highs, byteFits, allBelow, rangesFit, spareMasks, restFits, wellFormed}
 use Rattle.table.specs.Records.{chunks, records, allOf}
 use Rattle.table.proofs.Bytes.{byteOf, byte-same, below-next, ranges-hold, record-is, byte-unfit}
 use Rattle.table.proofs.Passes.{nth, part-is, length-part, rest-whole, all-next, all-end}
@@ -15,16 +15,16 @@ use Rattle.table.proofs.well_formed.records_fit.Statement.{statement}
 use Rattle.table.proofs.well_formed.records_fit.Tie as tie
 
 abbrev Inv-loop : tie.InvT-loop
-Inv-loop t n lo hi i a e used j₀ j = (j ≤ recordSize) × (allBelow (byteOf t i) j ≡ true)
+Inv-loop t n lo hi masks i a e used j₀ j = (j ≤ recordSize) × (allBelow (byteOf t i) j ≡ true)
 
 abbrev μ-loop : tie.MeasureT-loop
-μ-loop t n lo hi i a e used j₀ j = recordSize - j
+μ-loop t n lo hi masks i a e used j₀ j = recordSize - j
 
 abbrev Inv-records : tie.InvT-records
-Inv-records t n lo hi i₀ i = (i ≤ n) × (allOf wellFormed (chunks n t) ≡ allOf wellFormed (chunks (n - i) (drop (i * recordSize) t)))
+Inv-records t n lo hi masks i₀ i = (i ≤ n) × (allOf wellFormed (chunks n t) ≡ allOf wellFormed (chunks (n - i) (drop (i * recordSize) t)))
 
 abbrev μ-records : tie.MeasureT-records
-μ-records t n lo hi i₀ i = n - i
+μ-records t n lo hi masks i₀ i = n - i
 
 records-holds : tie.Need-records-holds Inv-loop μ-loop Inv-records μ-records
 records-holds c = (omega arith, sym (ap (allOf wellFormed) (rest-whole (length (c .before .args .t .now) / recordSize) (c .before .args .t .now))))
@@ -85,15 +85,19 @@ part-rest-fits-start c = omega arith
 part-rest-fits-end : tie.Need-part-rest-fits-end Inv-loop μ-loop Inv-records μ-records
 part-rest-fits-end c = omega arith
 
+slice-aggregate-rest-fits : tie.Need-slice-aggregate-rest-fits Inv-loop μ-loop Inv-records μ-records
+slice-aggregate-rest-fits c = search needs
+
 rest-fits-requires : tie.Need-rest-fits-requires Inv-loop μ-loop Inv-records μ-records
+unfolding spareMasks
 rest-fits-requires c κs =
-    let t = c .before .before .before .before .before .before .before .args .t .now in
-    let i = c .before .before .before .before .before .records .i in
+    let t = c .before .before .before .before .before .before .before .before .args .t .now in
+    let i = c .before .before .before .before .before .before .records .i in
     let n = length t / recordSize in
-    let l = c .before .before .loop in
+    let l = c .before .before .before .loop in
     let h : i < n = omega arith in
     let e : l .j ≡ recordSize = omega arith in
-    (length-part t i h, ap rangesFit (part-is t i) ∙ ranges-hold t i (l .j) e (l .inv .1))
+    (length-part t i h, ap rangesFit (part-is t i) ∙ ranges-hold t i (l .j) e (l .inv .1), refl)
 
 add-i : tie.Need-add-i Inv-loop μ-loop Inv-records μ-records
 add-i c = omega arith
@@ -103,14 +107,14 @@ records-less c = omega arith
 
 records-again : tie.Need-records-again Inv-loop μ-loop Inv-records μ-records
 records-again c =
-    let t = c .before .before .before .before .before .before .before .before .before .args .t .now in
-    let i = c .before .before .before .before .before .before .before .records .i in
+    let t = c .before .before .before .before .before .before .before .before .before .before .args .t .now in
+    let i = c .before .before .before .before .before .before .before .before .records .i in
     let n = length t / recordSize in
-    let l = c .before .before .before .before .loop in
+    let l = c .before .before .before .before .before .loop in
     let h : i < n = omega arith in
     let e : l .j ≡ recordSize = omega arith in
     let rest : restFits (nth t i) ≡ true = ap restFits (sym (part-is t i)) ∙ sym (c .before .rest-fits .ensures) ∙ not-false (c .before .rest-fits .result) (c .if3 .left) in
-    (omega arith, c .before .before .before .before .before .before .before .records .inv .1 ∙ all-next wellFormed n i t h ∙ ap (λ (b : Bool). b && allOf wellFormed (chunks (n - (i + 1)) (drop ((i + 1) * recordSize) t))) (record-is (nth t i) true (ranges-hold t i (l .j) e (l .inv .1)) rest))
+    (omega arith, c .before .before .before .before .before .before .before .before .records .inv .1 ∙ all-next wellFormed n i t h ∙ ap (λ (b : Bool). b && allOf wellFormed (chunks (n - (i + 1)) (drop ((i + 1) * recordSize) t))) (record-is (nth t i) true (ranges-hold t i (l .j) e (l .inv .1)) rest))
 
 returns : tie.Need-returns Inv-loop μ-loop Inv-records μ-records
 unfolding records
@@ -136,14 +140,14 @@ returns-2 c =
 returns-3 : tie.Need-returns-3 Inv-loop μ-loop Inv-records μ-records
 unfolding records
 returns-3 c =
-    let t = c .before .before .before .before .before .before .before .before .before .args .t .now in
-    let i = c .before .before .before .before .before .before .before .records .i in
+    let t = c .before .before .before .before .before .before .before .before .before .before .args .t .now in
+    let i = c .before .before .before .before .before .before .before .before .records .i in
     let n = length t / recordSize in
-    let l = c .before .before .before .before .loop in
+    let l = c .before .before .before .before .before .loop in
     let h : i < n = omega arith in
     let e : l .j ≡ recordSize = omega arith in
     let rest : restFits (nth t i) ≡ false = ap restFits (sym (part-is t i)) ∙ sym (c .before .rest-fits .ensures) ∙ not-true (c .before .rest-fits .result) (c .if3 .taken) in
-    sym (c .before .before .before .before .before .before .before .records .inv .1 ∙ all-next wellFormed n i t h ∙ ap (λ (b : Bool). b && allOf wellFormed (chunks (n - (i + 1)) (drop ((i + 1) * recordSize) t))) (record-is (nth t i) false (ranges-hold t i (l .j) e (l .inv .1)) rest))
+    sym (c .before .before .before .before .before .before .before .before .records .inv .1 ∙ all-next wellFormed n i t h ∙ ap (λ (b : Bool). b && allOf wellFormed (chunks (n - (i + 1)) (drop ((i + 1) * recordSize) t))) (record-is (nth t i) false (ranges-hold t i (l .j) e (l .inv .1)) rest))
 
 pub records-fit-spec : {M : Type 1} → statement M
 records-fit-spec =
@@ -169,6 +173,7 @@ records-fit-spec =
     sub-rest-fits
     part-rest-fits-start
     part-rest-fits-end
+    slice-aggregate-rest-fits
     rest-fits-requires
     add-i
     records-less
