@@ -1,7 +1,7 @@
 -- What the ranges of a record's bytes say.
-use Prim.Native.Nat.{ℕ, zero, suc, _≤_, _<_}
-use mathlib.Core.Path.{_≡_, refl, sym, subst, _∙_}
-use mathlib.Core.Bool.{Bool, true, false}
+use Prim.Native.Nat.{ℕ, zero, suc, _+_, _≤_, _<_}
+use mathlib.Core.Path.{_≡_, refl, sym, ap, ap₂, subst, _∙_}
+use mathlib.Core.Bool.{Bool, true, false, _&&_, and-assoc, and-true}
 use mathlib.Core.List.{List}
 use native.Mathlib.Omega.{arith}
 use lib.Dec.{leb, eqb}
@@ -21,6 +21,18 @@ allBelow-at p (suc n) j h k = by-test (eqb j n) refl (allBelow-at p n j (and-lef
     by-test : (b : Bool) → eqb j n ≡ b → (j < n → p j ≡ true) → p j ≡ true
     by-test true e before = subst (λ (i : ℕ). p i ≡ true) (sym (eqb-true j n e)) (and-right (allBelow p n) (p n) h)
     by-test false e before = before (below (eqb-false j n e) k)
+
+pub allBelow-add : (p : ℕ → Bool) (n m : ℕ) → allBelow p (n + m) ≡ allBelow p n && allBelow (λ k. p (n + k)) m
+unfolding allBelow
+allBelow-add p n zero = let z : n + 0 ≡ n = omega arith in ap (allBelow p) z ∙ sym (and-true (allBelow p n))
+allBelow-add p n (suc m) =
+    let s : n + suc m ≡ suc (n + m) = omega arith in
+    ap (allBelow p) s ∙ ap (λ (b : Bool). b && p (n + m)) (allBelow-add p n m) ∙ and-assoc (allBelow p n) (allBelow (λ k. p (n + k)) m) (p (n + m))
+
+pub allBelow-same : (p q : ℕ → Bool) (n : ℕ) → ((k : ℕ) → k < n → p k ≡ q k) → allBelow p n ≡ allBelow q n
+unfolding allBelow
+allBelow-same p q zero h = refl
+allBelow-same p q (suc n) h = ap₂ (λ (a b : Bool). a && b) (allBelow-same p q n (λ k l. h k (omega arith))) (h n (omega arith))
 
 -- a used record has one to five groups
 pub groups-range : (r : List ℕ) → rangesFit r ≡ true → (byteAt r 0 ≡ 0 → ⊥) → (1 ≤ groupsIn r) × (groupsIn r ≤ 5)

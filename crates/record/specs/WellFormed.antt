@@ -26,6 +26,10 @@ inRange used low high b = cond (eqb used 0) (eqb b 0) (leb low b && leb b high)
 abbrev pub byteFits : ℕ → ℕ → ℕ → Bool
 byteFits used j b = inRange used (getD lows j 0) (getD highs j 0) b
 
+-- byte j of a part of it, with the limits of that part
+abbrev pub partFits : ℕ → (least greatest part : List ℕ) → ℕ → Bool
+partFits used least greatest part j = inRange used (getD least j 0) (getD greatest j 0) (getD part j 0)
+
 -- a test holds of every number below n
 unfoldable pub allBelow : (ℕ → Bool) → ℕ → Bool
 allBelow p zero = true

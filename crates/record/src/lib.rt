@@ -55,4 +55,7 @@ pub struct Record;
 impl Record {
     // The bytes of a record.
     pub const SIZE: usize = 32;
+
+    // The bytes that a test of its ranges takes at once.
+    pub const PART: usize = 8;
 }

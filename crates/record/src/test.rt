@@ -5,7 +5,7 @@ ghost use Prim.Native.Nat.{_<_};
 ghost use lib.ListN.{length};
 ghost use Rattle.bits.specs.Bits.{allZero};
 ghost use Rattle.record.specs.Layout.{recordSize};
-ghost use Rattle.record.specs.WellFormed.{inRange, rangesFit, spareAfter, spareMasks, restFits};
+ghost use Rattle.record.specs.WellFormed.{inRange, partFits, allBelow, rangesFit, spareAfter, spareMasks, restFits};
 use crate::Record;
 use crate::freeing::expiry;
 use bits::bytes::load;
@@ -103,7 +103,7 @@ impl Record {
 }
 
 // Whether a byte may be b in a record whose byte 0 is used: zero in a free record, else from low to high.
-pub fn byte_fits(used: u8, low: u8, high: u8, b: u8) -> bool
+fn byte_fits(used: u8, low: u8, high: u8, b: u8) -> bool
     ensures { λ r. ⌜ r ≡ inRange used low high b ⌝ }
 {
     if used == 0 {
@@ -111,6 +111,20 @@ pub fn byte_fits(used: u8, low: u8, high: u8, b: u8) -> bool
     } else {
         (low <= b) & (b <= high)
     }
+}
+
+// Whether bytes of such a record are each in their range. No exit: the compiler makes a few tests of it.
+pub fn part_fits(used: u8, lows: &[u8], highs: &[u8], part: &[u8]) -> bool
+    requires { ⌜ (length (now lows) ≡ length (now part)) × (length (now highs) ≡ length (now part)) ⌝ }
+    ensures { λ r. ⌜ r ≡ allBelow (partFits used (now (lows .entry)) (now (highs .entry)) (now (part .entry))) (length (now (part .entry))) ⌝ }
+{
+    let mut fits = true;
+    let mut i = 0;
+    while i < part.len() {
+        fits = fits & byte_fits(used, lows[i], highs[i], part[i]);
+        i += 1;
+    }
+    fits
 }
 
 // Whether a record whose bytes are in their ranges is free, or has an expiry and no content bit after those of its groups; the masks

@@ -8,7 +8,7 @@ ghost use Rattle.table.specs.Records.{records, allOf};
 ghost use Rattle.table.specs.Lent.{tableFits};
 use crate::Table;
 use record::Record;
-use record::test::byte_fits;
+use record::test::part_fits;
 use record::test::rest_fits;
 
 // Whether the bytes are 1 to 1,024 well-formed records.
@@ -43,10 +43,13 @@ fn records_fit(t: &[u8]) -> bool
         let used = t[a];
         let mut j = 0;
         while j < Record::SIZE {
-            if !byte_fits(used, lows[j], highs[j], t[a + j]) {
+            let k = j + Record::PART;
+            let from = a + j;
+            let to = a + k;
+            if !part_fits(used, &lows[j..k], &highs[j..k], &t[from..to]) {
                 break 'records false;
             }
-            j += 1;
+            j = k;
         }
         if !rest_fits(&t[a..e], &masks) {
             break 'records false;

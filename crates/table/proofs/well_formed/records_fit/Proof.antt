@@ -1,21 +1,21 @@
--- The records passed are well-formed, and of this one the bytes passed are in their ranges.
-use Prim.Native.Nat.{_+_, _-_, _*_, _/_, _≤_, _<_}
+-- The records passed are well-formed, and of this one the parts passed have their bytes in their ranges.
+use Prim.Native.Nat.{_+_, _-_, _*_, _/_, _%_, _≤_, _<_}
 use mathlib.Core.Path.{_≡_, refl, sym, ap, _∙_}
 use native.Mathlib.Omega.{arith}
 use mathlib.Core.Bool.{Bool, true, false, _&&_}
-use lib.ListN.{length, drop, getD}
+use lib.ListN.{length, drop}
 use borrow.Author.Tests.{not-true, not-false}
 use Rattle.record.specs.Layout.{recordSize}
-use Rattle.record.specs.WellFormed.{lows, highs, byteFits, allBelow, rangesFit, spareMasks, restFits, wellFormed}
+use Rattle.record.specs.WellFormed.{lows, highs, allBelow, rangesFit, spareMasks, restFits, wellFormed}
 use Rattle.table.specs.Records.{chunks, records, allOf}
-use Rattle.table.proofs.Bytes.{byteOf, byte-same, below-next, ranges-hold, record-is, byte-unfit}
+use Rattle.table.proofs.Bytes.{byteOf, partSize, partOf, part-lengths, part-next, part-unfit, ranges-hold, record-is}
 use Rattle.table.proofs.Passes.{nth, part-is, length-part, rest-whole, all-next, all-end}
 use borrow.Author.Needs.{needs}
 use Rattle.table.proofs.well_formed.records_fit.Statement.{statement}
 use Rattle.table.proofs.well_formed.records_fit.Tie as tie
 
 abbrev Inv-loop : tie.InvT-loop
-Inv-loop t n lo hi masks i a e used j₀ j = (j ≤ recordSize) × (allBelow (byteOf t i) j ≡ true)
+Inv-loop t n lo hi masks i a e used j₀ j = (j ≤ recordSize) × (j % partSize ≡ 0) × (allBelow (byteOf t i) j ≡ true)
 
 abbrev μ-loop : tie.MeasureT-loop
 μ-loop t n lo hi masks i a e used j₀ j = recordSize - j
@@ -40,26 +40,53 @@ shared-slice-read-used c = omega arith
 
 loop-holds : tie.Need-loop-holds Inv-loop μ-loop Inv-records μ-records
 unfolding allBelow
-loop-holds c = (omega arith, refl)
+loop-holds c = (omega arith, omega arith, refl)
 
-array-read-byte-fits : tie.Need-array-read-byte-fits Inv-loop μ-loop Inv-records μ-records
-array-read-byte-fits c = omega arith
+add-k : tie.Need-add-k Inv-loop μ-loop Inv-records μ-records
+add-k c = omega arith
 
-array-read-byte-fits-2 : tie.Need-array-read-byte-fits-2 Inv-loop μ-loop Inv-records μ-records
-array-read-byte-fits-2 c = omega arith
+add-from : tie.Need-add-from Inv-loop μ-loop Inv-records μ-records
+add-from c = omega arith
 
-add-byte-fits : tie.Need-add-byte-fits Inv-loop μ-loop Inv-records μ-records
-add-byte-fits c = omega arith
+add-to : tie.Need-add-to Inv-loop μ-loop Inv-records μ-records
+add-to c = omega arith
 
-shared-slice-read-byte-fits :
-    tie.Need-shared-slice-read-byte-fits Inv-loop μ-loop Inv-records μ-records
-shared-slice-read-byte-fits c = omega arith
+sub-part-fits : tie.Need-sub-part-fits Inv-loop μ-loop Inv-records μ-records
+sub-part-fits c = omega arith
 
-byte-fits-requires : tie.Need-byte-fits-requires Inv-loop μ-loop Inv-records μ-records
-byte-fits-requires c κs = search needs
+part-part-fits-start : tie.Need-part-part-fits-start Inv-loop μ-loop Inv-records μ-records
+part-part-fits-start c = omega arith
 
-add-j : tie.Need-add-j Inv-loop μ-loop Inv-records μ-records
-add-j c = omega arith
+part-part-fits-end : tie.Need-part-part-fits-end Inv-loop μ-loop Inv-records μ-records
+part-part-fits-end c = omega arith
+
+sub-part-fits-2 : tie.Need-sub-part-fits-2 Inv-loop μ-loop Inv-records μ-records
+sub-part-fits-2 c = omega arith
+
+part-part-fits-start-2 : tie.Need-part-part-fits-start-2 Inv-loop μ-loop Inv-records μ-records
+part-part-fits-start-2 c = omega arith
+
+part-part-fits-end-2 : tie.Need-part-part-fits-end-2 Inv-loop μ-loop Inv-records μ-records
+part-part-fits-end-2 c = omega arith
+
+sub-part-fits-3 : tie.Need-sub-part-fits-3 Inv-loop μ-loop Inv-records μ-records
+sub-part-fits-3 c = omega arith
+
+part-part-fits-start-3 : tie.Need-part-part-fits-start-3 Inv-loop μ-loop Inv-records μ-records
+part-part-fits-start-3 c = omega arith
+
+part-part-fits-end-3 : tie.Need-part-part-fits-end-3 Inv-loop μ-loop Inv-records μ-records
+part-part-fits-end-3 c = omega arith
+
+part-fits-requires : tie.Need-part-fits-requires Inv-loop μ-loop Inv-records μ-records
+unfolding lows highs
+part-fits-requires c κs =
+    let t = c .before .before .before .before .before .before .before .before .before .before .before .args .t .now in
+    let i = c .before .before .before .before .before .before .before .before .before .records .i in
+    let l = c .before .before .before .before .before .before .loop in
+    let h : i < length t / recordSize = omega arith in
+    let within : l .j + partSize ≤ recordSize = omega arith in
+    part-lengths t i (l .j) h within
 
 loop-less : tie.Need-loop-less Inv-loop μ-loop Inv-records μ-records
 loop-less c = omega arith
@@ -67,14 +94,13 @@ loop-less c = omega arith
 loop-again : tie.Need-loop-again Inv-loop μ-loop Inv-records μ-records
 unfolding lows highs
 loop-again c =
-    let t = c .before .before .before .before .before .before .before .before .before .args .t .now in
-    let i = c .before .before .before .before .before .before .before .records .i in
-    let n = length t / recordSize in
-    let l = c .before .before .before .before .loop in
-    let j = l .j in
-    let below : j < recordSize = omega arith in
-    let yes : byteFits (getD t (i * recordSize) 0) j (getD t (i * recordSize + j) 0) ≡ true = sym (c .before .byte-fits .ensures) ∙ not-false (c .before .byte-fits .result) (c .if2 .left) in
-    (omega arith, below-next (byteOf t i) j (l .inv .1) (byte-same t i j below ∙ yes))
+    let t = c .before .before .before .before .before .before .before .before .before .before .before .before .before .args .t .now in
+    let i = c .before .before .before .before .before .before .before .before .before .before .before .records .i in
+    let l = c .before .before .before .before .before .before .before .before .loop in
+    let h : i < length t / recordSize = omega arith in
+    let within : l .j + partSize ≤ recordSize = omega arith in
+    let yes : partOf t i (l .j) ≡ true = sym (c .before .part-fits .ensures) ∙ not-false (c .before .part-fits .result) (c .if2 .left) in
+    (omega arith, omega arith, part-next t i (l .j) h within (l .inv .2) yes)
 
 sub-rest-fits : tie.Need-sub-rest-fits Inv-loop μ-loop Inv-records μ-records
 sub-rest-fits c = omega arith
@@ -97,7 +123,7 @@ rest-fits-requires c κs =
     let l = c .before .before .before .loop in
     let h : i < n = omega arith in
     let e : l .j ≡ recordSize = omega arith in
-    (length-part t i h, ap rangesFit (part-is t i) ∙ ranges-hold t i (l .j) e (l .inv .1), refl)
+    (length-part t i h, ap rangesFit (part-is t i) ∙ ranges-hold t i (l .j) e (l .inv .2), refl)
 
 add-i : tie.Need-add-i Inv-loop μ-loop Inv-records μ-records
 add-i c = omega arith
@@ -114,7 +140,7 @@ records-again c =
     let h : i < n = omega arith in
     let e : l .j ≡ recordSize = omega arith in
     let rest : restFits (nth t i) ≡ true = ap restFits (sym (part-is t i)) ∙ sym (c .before .rest-fits .ensures) ∙ not-false (c .before .rest-fits .result) (c .if3 .left) in
-    (omega arith, c .before .before .before .before .before .before .before .before .records .inv .1 ∙ all-next wellFormed n i t h ∙ ap (λ (b : Bool). b && allOf wellFormed (chunks (n - (i + 1)) (drop ((i + 1) * recordSize) t))) (record-is (nth t i) true (ranges-hold t i (l .j) e (l .inv .1)) rest))
+    (omega arith, c .before .before .before .before .before .before .before .before .records .inv .1 ∙ all-next wellFormed n i t h ∙ ap (λ (b : Bool). b && allOf wellFormed (chunks (n - (i + 1)) (drop ((i + 1) * recordSize) t))) (record-is (nth t i) true (ranges-hold t i (l .j) e (l .inv .2)) rest))
 
 returns : tie.Need-returns Inv-loop μ-loop Inv-records μ-records
 unfolding records
@@ -128,14 +154,14 @@ returns c =
 returns-2 : tie.Need-returns-2 Inv-loop μ-loop Inv-records μ-records
 unfolding records lows highs
 returns-2 c =
-    let t = c .before .before .before .before .before .before .before .before .before .args .t .now in
-    let i = c .before .before .before .before .before .before .before .records .i in
+    let t = c .before .before .before .before .before .before .before .before .before .before .before .before .before .args .t .now in
+    let i = c .before .before .before .before .before .before .before .before .before .before .before .records .i in
     let n = length t / recordSize in
-    let j = c .before .before .before .before .loop .j in
+    let l = c .before .before .before .before .before .before .before .before .loop in
     let h : i < n = omega arith in
-    let below : j < recordSize = omega arith in
-    let no : byteFits (getD t (i * recordSize) 0) j (getD t (i * recordSize + j) 0) ≡ false = sym (c .before .byte-fits .ensures) ∙ not-true (c .before .byte-fits .result) (c .if2 .taken) in
-    sym (c .before .before .before .before .before .before .before .records .inv .1 ∙ all-next wellFormed n i t h ∙ ap (λ (b : Bool). b && allOf wellFormed (chunks (n - (i + 1)) (drop ((i + 1) * recordSize) t))) (byte-unfit t i j below (byte-same t i j below ∙ no)))
+    let within : l .j + partSize ≤ recordSize = omega arith in
+    let no : partOf t i (l .j) ≡ false = sym (c .before .part-fits .ensures) ∙ not-true (c .before .part-fits .result) (c .if2 .taken) in
+    sym (c .before .before .before .before .before .before .before .before .before .before .before .records .inv .1 ∙ all-next wellFormed n i t h ∙ ap (λ (b : Bool). b && allOf wellFormed (chunks (n - (i + 1)) (drop ((i + 1) * recordSize) t))) (part-unfit t i (l .j) h within no))
 
 returns-3 : tie.Need-returns-3 Inv-loop μ-loop Inv-records μ-records
 unfolding records
@@ -147,7 +173,7 @@ returns-3 c =
     let h : i < n = omega arith in
     let e : l .j ≡ recordSize = omega arith in
     let rest : restFits (nth t i) ≡ false = ap restFits (sym (part-is t i)) ∙ sym (c .before .rest-fits .ensures) ∙ not-true (c .before .rest-fits .result) (c .if3 .taken) in
-    sym (c .before .before .before .before .before .before .before .before .records .inv .1 ∙ all-next wellFormed n i t h ∙ ap (λ (b : Bool). b && allOf wellFormed (chunks (n - (i + 1)) (drop ((i + 1) * recordSize) t))) (record-is (nth t i) false (ranges-hold t i (l .j) e (l .inv .1)) rest))
+    sym (c .before .before .before .before .before .before .before .before .records .inv .1 ∙ all-next wellFormed n i t h ∙ ap (λ (b : Bool). b && allOf wellFormed (chunks (n - (i + 1)) (drop ((i + 1) * recordSize) t))) (record-is (nth t i) false (ranges-hold t i (l .j) e (l .inv .2)) rest))
 
 pub records-fit-spec : {M : Type 1} → statement M
 records-fit-spec =
@@ -162,12 +188,19 @@ records-fit-spec =
     add-e
     shared-slice-read-used
     loop-holds
-    array-read-byte-fits
-    array-read-byte-fits-2
-    add-byte-fits
-    shared-slice-read-byte-fits
-    byte-fits-requires
-    add-j
+    add-k
+    add-from
+    add-to
+    sub-part-fits
+    part-part-fits-start
+    part-part-fits-end
+    sub-part-fits-2
+    part-part-fits-start-2
+    part-part-fits-end-2
+    sub-part-fits-3
+    part-part-fits-start-3
+    part-part-fits-end-3
+    part-fits-requires
     loop-less
     loop-again
     sub-rest-fits
