@@ -1,5 +1,5 @@
-//! Times the proved library, through its C interface, beside the second program: the same input,
-//! the two in turn, the least of several repetitions.
+//! Times the proved library beside the second program: the same calls on the same numbers and
+//! slices, the two in turn, the least of several repetitions.
 
 #![deny(warnings)]
 
@@ -10,15 +10,13 @@ use std::process::{self, Command, ExitCode, Stdio};
 use std::time::{Duration, Instant};
 use std::{env, io};
 
-use second::assembler::{Answer, Assembler};
-use second::clock::Utc;
 use second::content::{Item, Items};
 use second::drm::{self, Unit};
 use second::fig::{self, Fig};
 use second::rds::Group;
 use second::recording::{self, Record};
 use second::report::{self, Report};
-use second::table::{self, Arrival, Lists, Service};
+use second::table;
 use second::word::Head;
 
 const REPETITIONS: usize = 200;
@@ -126,7 +124,9 @@ fn bench_rds(words: &[u64]) {
     };
     let second = || {
         for group in groups.chunks_exact(8) {
-            let _ = black_box(Group::read(black_box(group)));
+            let mut fields = [0; 4];
+            black_box(calls::rds_read(black_box(group), &mut fields));
+            black_box(fields);
         }
     };
     measure(ours, second).print("RDS group", words.len());
@@ -162,9 +162,14 @@ fn bench_fig(words: &[u64]) {
     };
     let second = || {
         for bytes in &figs {
-            let mut words = [0; 14];
-            let _ = black_box(Fig::read(black_box(bytes), &mut words));
-            black_box(words);
+            let (mut fig, mut words, mut count) = ([0; 2], [0; 14], 0);
+            black_box(calls::fig_read(
+                black_box(bytes),
+                &mut fig,
+                &mut words,
+                &mut count,
+            ));
+            black_box((fig, words, count));
         }
     };
     measure(ours, second).print("FIG of 6 words", figs.len());
@@ -209,98 +214,76 @@ fn bench_drm() {
     };
     let second = || {
         for bytes in &units {
-            let (mut system, mut words) = ([0; 3], [0; drm::MOST_WORDS]);
-            let _ = black_box(Unit::read(black_box(bytes), &mut system, &mut words));
-            black_box((system, words));
+            let (mut unit, mut lto, mut words, mut count) = ([0; 9], 0, [0; drm::MOST_WORDS], 0);
+            black_box(calls::drm_read(
+                black_box(bytes),
+                &mut unit,
+                &mut lto,
+                &mut words,
+                &mut count,
+            ));
+            black_box((unit, lto, words, count));
         }
     };
     measure(ours, second).print("DRM unit of 27 words", units.len());
 }
 
 fn bench_assembler(words: &[u64]) {
-    let ours = || {
+    type Step = fn(&mut [u64], u64, &mut [u64]) -> u8;
+    let run = |step: Step| {
         let (mut state, mut answer) = ([0; 11], [0; 65]);
         let mut reports = 0;
         for &word in words {
-            let refusal = proved::assembler_step(&mut state, black_box(word), &mut answer);
+            let refusal = step(&mut state, black_box(word), &mut answer);
             reports += u64::from(refusal == 0 && answer[0] == 1);
             black_box(&answer);
         }
         black_box(reports);
     };
-    let second = || {
-        let mut state = Assembler::Empty;
-        let mut reports = 0;
-        for &word in words {
-            let step = state.step(black_box(word));
-            state = step.next;
-            reports += u64::from(matches!(step.answer, Answer::Report(_)));
-            black_box(&step.answer);
-        }
-        black_box(reports);
-    };
+    let ours = || run(proved::assembler_step);
+    let second = || run(calls::assembler_step);
     measure(ours, second).print("word through the assembler", words.len());
 }
 
 /// Takes into a table with one free record, each matching one record.
 fn bench_take(records: usize) -> Times {
     const TAKES: usize = 20;
+    type Take = fn(&mut [u8], &mut u32, &proved::Taking, &mut [u64]) -> u8;
     let mut catalogue = [0; table::EVENTS];
     catalogue[101] = 1 << 6 | 5;
     let lives = [60; table::LIVES];
-    let service = Service {
-        country: 13,
-        ltn: 17,
-        sid: 3,
-    };
-    let take_second = |table: &mut [u8], last: &mut Utc, i: usize| {
-        let report = report_at((i % (records - 1)) as u16);
-        let arrival = Arrival {
-            report: black_box(&report),
-            service,
-            lto: 2,
-            minute: Utc(1000),
-        };
-        let lists = Lists {
+    // The refusal, and the numbers expired and matched.
+    let take_at = |take: Take, table: &mut [u8], location: u64| {
+        let mut report = [0; 64];
+        report[..7].copy_from_slice(&[0, 101, location, 1, 2, 0, 3]);
+        let taking = proved::Taking {
             catalogue: &catalogue,
             lives: &lives,
+            report: black_box(&report),
+            country: 13,
+            ltn: 17,
+            sid: 3,
+            minute: 1000,
+            lto: 2,
         };
-        table::take(table, lists, last, arrival)
+        let (mut clock, mut answer) = (1000, [0; 4]);
+        let refusal = take(table, &mut clock, &taking, &mut answer);
+        (refusal, answer[0], answer[1])
     };
     let mut start = vec![0; table::RECORD * records];
-    let mut last = Utc(0);
-    for i in 0..records - 1 {
-        let taken = take_second(&mut start, &mut last, i);
-        taken.expect("room");
+    for location in 0..records - 1 {
+        let taken = take_at(calls::table_take, &mut start, location as u64);
+        assert_eq!(taken, (0, 0, 0));
     }
-    let (mut ours, mut other) = (start.clone(), start);
-    let mut clock = last.0;
-    let take_ours = || {
+    let run = |take: Take, table: &mut [u8]| {
         for i in 0..TAKES {
-            let mut report = [0; 64];
             let location = (i % (records - 1)) as u64;
-            report[..7].copy_from_slice(&[0, 101, location, 1, 2, 0, 3]);
-            let taking = proved::Taking {
-                catalogue: &catalogue,
-                lives: &lives,
-                report: black_box(&report),
-                country: 13,
-                ltn: 17,
-                sid: 3,
-                minute: 1000,
-                lto: 2,
-            };
-            let mut answer = [0; 4];
-            let refusal = proved::table_take(&mut ours, &mut clock, &taking, &mut answer);
-            assert_eq!((refusal, answer[1]), (0, 1));
+            assert_eq!(take_at(take, table, location), (0, 0, 1));
         }
     };
-    let take_other = || {
-        for i in 0..TAKES {
-            let taken = take_second(&mut other, &mut last, i);
-            assert_eq!(taken.map(|taken| taken.matched), Ok(1));
-        }
-    };
+    let (mut ours, mut other) = (start.clone(), start);
+    let take_ours = || run(proved::table_take, &mut ours);
+    let take_other = || run(calls::table_take, &mut other);
     let times = measure(take_ours, take_other);
     times.print(&format!("take at {records} records"), TAKES);
     times

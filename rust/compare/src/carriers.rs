@@ -1,9 +1,9 @@
 //! Words, system words and the three carriers.
 
-use crate::cells;
 use crate::sender::{self, Bits, Message};
 use crate::tally::Call;
 use crate::Trial;
+use calls as cells;
 
 /// What stands in a lent cell before a call.
 pub const CELL: u64 = 0xA5A5_5A5A_0F0F_F0F0;

@@ -11,7 +11,6 @@ use random::Random;
 use tally::Tally;
 
 mod carriers;
-mod cells;
 mod listings;
 mod random;
 mod reports;

@@ -1,10 +1,10 @@
 //! Reports, the assembler, and transmissions with losses (demand 3).
 
 use crate::carriers::{CELL, COUNT};
-use crate::cells;
 use crate::sender::{self, Head, Message};
 use crate::tally::Call;
 use crate::Trial;
+use calls as cells;
 
 impl Trial {
     /// The cells of a report and a continuity index, often unfit.

@@ -1,8 +1,8 @@
 //! A plain sender: every form is built as a string of bits, field by field, so that what a reader
 //! must answer is known without either program.
 
-use crate::cells::REPORT;
 use crate::random::Random;
+use calls::REPORT;
 
 /// Bits of the value after labels 0 to 14.
 const WIDTHS: [u32; 15] = [3, 3, 5, 5, 5, 8, 8, 8, 8, 11, 16, 16, 16, 16, 0];

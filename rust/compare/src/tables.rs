@@ -3,10 +3,10 @@
 use proved::Taking;
 
 use crate::carriers::{CELL, COUNT};
-use crate::cells;
 use crate::sender::{self, Head, Message};
 use crate::tally::Call;
 use crate::Trial;
+use calls as cells;
 
 const RECORD: usize = 32;
 const LARGEST: u32 = 4_000_000_000;

@@ -1,5 +1,7 @@
 //! The second program's calls in the proved library's form: numbers and slices, 0 or a refusal.
 
+#![deny(warnings)]
+
 use proved::Taking;
 use second::assembler::{Answer, Assembler, Open};
 use second::clock::Utc;
