@@ -114,21 +114,17 @@ fn groups(words: &[u64]) -> Vec<u8> {
 }
 
 fn bench_rds(words: &[u64]) {
+    type Read = fn(&[u8], &mut [u64]) -> u8;
     let groups = groups(words);
-    let ours = || {
+    let run = |read: Read| {
         for group in groups.chunks_exact(8) {
             let mut fields = [0; 4];
-            black_box(proved::rds_read(black_box(group), &mut fields));
+            black_box(read(black_box(group), &mut fields));
             black_box(fields);
         }
     };
-    let second = || {
-        for group in groups.chunks_exact(8) {
-            let mut fields = [0; 4];
-            black_box(calls::rds_read(black_box(group), &mut fields));
-            black_box(fields);
-        }
-    };
+    let ours = || run(proved::rds_read);
+    let second = || run(calls::rds_read);
     measure(ours, second).print("RDS group", words.len());
 }
 
@@ -147,31 +143,17 @@ fn figs(words: &[u64]) -> Vec<Vec<u8>> {
 }
 
 fn bench_fig(words: &[u64]) {
+    type Read = fn(&[u8], &mut [u64], &mut [u64], &mut usize) -> u8;
     let figs = figs(words);
-    let ours = || {
+    let run = |read: Read| {
         for bytes in &figs {
             let (mut fig, mut words, mut count) = ([0; 2], [0; 14], 0);
-            black_box(proved::fig_read(
-                black_box(bytes),
-                &mut fig,
-                &mut words,
-                &mut count,
-            ));
+            black_box(read(black_box(bytes), &mut fig, &mut words, &mut count));
             black_box((fig, words, count));
         }
     };
-    let second = || {
-        for bytes in &figs {
-            let (mut fig, mut words, mut count) = ([0; 2], [0; 14], 0);
-            black_box(calls::fig_read(
-                black_box(bytes),
-                &mut fig,
-                &mut words,
-                &mut count,
-            ));
-            black_box((fig, words, count));
-        }
-    };
+    let ours = || run(proved::fig_read);
+    let second = || run(calls::fig_read);
     measure(ours, second).print("FIG of 6 words", figs.len());
 }
 
@@ -198,33 +180,23 @@ fn units(count: u16) -> Vec<Vec<u8>> {
 }
 
 fn bench_drm() {
-    let units = units(500);
-    let ours = || {
+    type Read = fn(&[u8], &mut [u64], &mut i8, &mut [u64], &mut usize) -> u8;
+    let units = units(2000);
+    let run = |read: Read| {
         for bytes in &units {
             let (mut unit, mut lto, mut words, mut count) = ([0; 9], 0, [0; drm::MOST_WORDS], 0);
-            black_box(proved::drm_read(
+            let refusal = read(
                 black_box(bytes),
                 &mut unit,
                 &mut lto,
                 &mut words,
                 &mut count,
-            ));
-            black_box((unit, lto, words, count));
+            );
+            black_box((refusal, unit, lto, words, count));
         }
     };
-    let second = || {
-        for bytes in &units {
-            let (mut unit, mut lto, mut words, mut count) = ([0; 9], 0, [0; drm::MOST_WORDS], 0);
-            black_box(calls::drm_read(
-                black_box(bytes),
-                &mut unit,
-                &mut lto,
-                &mut words,
-                &mut count,
-            ));
-            black_box((unit, lto, words, count));
-        }
-    };
+    let ours = || run(proved::drm_read);
+    let second = || run(calls::drm_read);
     measure(ours, second).print("DRM unit of 27 words", units.len());
 }
 
