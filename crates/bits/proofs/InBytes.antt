@@ -64,6 +64,17 @@ module _ (s : List ℕ) (a n o w k : ℕ) (inside : a + n ≤ length s) (eight :
       ∙ sym (overlay-within before (flat 8 mid) after o (bits w v) (omega (arith, size, length-bits-mid)))
       ∙ ap₂ (λ (m : ℕ) (l : List Bool). overlay (m + o) (bits w v) l) (length-flat 8 (take a s) ∙ ap (λ (m : ℕ). m * 8) (length-take-le a s (omega arith))) whole
 
+-- the w bits from bit p on, which the eight bytes from byte a on hold
+pub read-in-eight : (s : List ℕ) (a p w : ℕ) → a + 8 ≤ length s → a * 8 ≤ p → p + w ≤ a * 8 + 64
+    → val (flat 8 (take (a + 8 - a) (drop a s))) / 2 ^ (64 - (p - a * 8) - w) % 2 ^ w ≡ val (stretch p w (flat 8 s))
+read-in-eight s a p w inside from to =
+    let k = 64 - (p - a * 8) - w in
+    let n : a + 8 - a ≡ 8 = omega arith in
+    let at : a * 8 + (p - a * 8) ≡ p = omega arith in
+    ap (λ (m : ℕ). val (flat 8 (take m (drop a s))) / 2 ^ k % 2 ^ w) n
+    ∙ read-in-bytes s a 8 (p - a * 8) w k inside (omega arith)
+    ∙ ap (λ (m : ℕ). val (stretch m w (flat 8 s))) at
+
 -- how many bytes hold the w bits from bit p on, and how many bits are left over in the last one
 abbrev pub count : ℕ → ℕ → ℕ
 count p w = (p % 8 + w + 7) / 8

@@ -1,12 +1,12 @@
--- What a turn of the loops of `load` and `store` does.
+-- What a turn of the loops of `fold` and `store` does, and a number by its parts.
 use Prim.Native.Nat.{ℕ, zero, suc, _+_, _*_, _/_, _%_, _^_, _<_, _≤_}
 use native.Mathlib.Nat.{suc-mul, add-comm, mul-comm, lt-of-lt-of-le, mul-le-mul-right}
 use native.Mathlib.Omega.{arith}
 use mathlib.Core.Path.{_≡_, refl, sym, ap, ap₂, subst, _∙_}
 use mathlib.Core.Bool.{Bool}
 use mathlib.Core.List.{List, [], _∷_, _++_}
-use lib.ListN.{length, take, drop, getD, set, length-append}
-use lib.Seq.{take-suc, set-at, append-snoc, length-take-le}
+use lib.ListN.{length, take, drop, getD, set, length-append, length-drop, take-append-drop}
+use lib.Seq.{take-suc, take-all, set-at, append-snoc, length-take-le}
 use lib.Pow.{pow-mono, shr-shr}
 use Rattle.bits.specs.Bits.{bits, val}
 use Rattle.bits.specs.Fields.{flat, words}
@@ -20,6 +20,16 @@ load-more s i h b =
     ∙ ap val (flat-append 8 (take i s) (getD s i 0 ∷ []) ∙ ap (λ (l : List Bool). flat 8 (take i s) ++ l) (flat-one 8 (getD s i 0)))
     ∙ val-append (flat 8 (take i s)) (bits 8 (getD s i 0))
     ∙ ap₂ (λ (n m : ℕ). val (flat 8 (take i s)) * 2 ^ n + m) (length-bits 8 (getD s i 0)) (val-bits-lt 8 (getD s i 0) b))
+
+-- i bytes and the n after them
+pub load-parts : (s : List ℕ) (i n : ℕ) → length s ≡ i + n → val (flat 8 (take i s)) * 2 ^ (n * 8) + val (flat 8 (take n (drop i s))) ≡ val (flat 8 s)
+load-parts s i n e =
+    let part = take n (drop i s) in
+    let size : length (drop i s) ≡ n = omega (arith, length-drop i s) in
+    let all : part ≡ drop i s = take-all n (drop i s) (omega arith) in
+    ap (λ (m : ℕ). val (flat 8 (take i s)) * 2 ^ m + val (flat 8 part)) (sym (length-flat 8 part ∙ ap (λ (m : ℕ). m * 8) (ap length all ∙ size)))
+    ∙ sym (val-append (flat 8 (take i s)) (flat 8 part))
+    ∙ ap val (sym (flat-append 8 (take i s) part) ∙ ap (flat 8) (ap (λ (l : List ℕ). take i s ++ l) all ∙ take-append-drop i s))
 
 -- i bytes make a number below 2 ^ 8i
 pub load-lt : (s : List ℕ) (i n : ℕ) → i ≤ length s → i ≤ n → val (flat 8 (take i s)) < 2 ^ (n * 8)

@@ -1,73 +1,66 @@
--- The number is that of the bytes passed.
-use Prim.Native.Nat.{ℕ, suc, _≤_, _<_, _-_, _^_, _*_}
-use native.Mathlib.Numerals.{add-one}
+-- Eight bytes are the number of their first four and that of their last four.
+use Prim.Native.Nat.{ℕ, _+_, _-_, _*_, _^_}
 use native.Mathlib.Omega.{arith}
-use mathlib.Core.Path.{_≡_, refl, sym, ap, _∙_}
-use lib.ListN.{length, take, getD}
-use lib.Seq.{take-all}
+use mathlib.Core.Path.{_≡_, ap, ap₂, _∙_}
+use lib.ListN.{length, take, drop, length-drop}
+use lib.Seq.{length-take-le}
 use borrow.Author.Needs.{needs}
 use Rattle.bits.specs.Bits.{val}
 use Rattle.bits.specs.Fields.{flat}
-use Rattle.bits.proofs.Loading.{load-more, load-lt}
+use Rattle.bits.proofs.Loading.{load-parts, load-lt}
 use Rattle.bits.proofs.bytes.load.Statement.{statement}
 use Rattle.bits.proofs.bytes.load.Tie as tie
 
-abbrev Inv-loop : tie.InvT-loop
-Inv-loop s x₀ i₀ x i = (i ≤ length s) × (x ≡ val (flat 8 (take i s)))
+slice-aggregate-fold : tie.Need-slice-aggregate-fold
+slice-aggregate-fold c = omega (arith, length-take-le 4 (c .before .before .before .args .s .now) (omega arith))
 
-abbrev μ-loop : tie.MeasureT-loop
-μ-loop s x₀ i₀ x i = length s - i
+fold-requires : tie.Need-fold-requires
+fold-requires c κs = omega (arith, length-take-le 4 (c .before .before .before .args .s .now) (omega arith))
 
-below : (c : tie.In-loop Inv-loop μ-loop) → c .before .loop .x < 2 ^ 56
-below c = rw (c .before .loop .inv .1) (load-lt (c .before .before .before .args .s .now) (c .before .loop .i) 7 (omega arith) (omega arith))
+mul-result : tie.Need-mul-result
+mul-result c = omega (arith, c .fold .ensures, load-lt (c .before .before .before .before .args .s .now) 4 4 (omega arith) (omega arith))
 
-loop-holds : tie.Need-loop-holds Inv-loop μ-loop
-unfolding flat val
-loop-holds c = (search needs, refl)
+sub-fold : tie.Need-sub-fold
+sub-fold c = search needs
 
-mul-x : tie.Need-mul-x Inv-loop μ-loop
-mul-x c = omega (arith, below c)
+part-fold-start : tie.Need-part-fold-start
+part-fold-start c = search needs
 
-shared-slice-read-wide : tie.Need-shared-slice-read-wide Inv-loop μ-loop
-shared-slice-read-wide c = omega arith
+part-fold-end : tie.Need-part-fold-end
+part-fold-end c = search needs
 
-wide-requires : tie.Need-wide-requires Inv-loop μ-loop
-wide-requires c κs = tt
+fold-requires-2 : tie.Need-fold-requires-2
+fold-requires-2 c κs = search needs
 
-add-x : tie.Need-add-x Inv-loop μ-loop
-add-x c = omega (arith, below (c .before .before), c .before .shared-slice-known2 .given (c .before .before .before .loop .i), c .wide .ensures)
+add-result : tie.Need-add-result
+add-result c =
+    let s = c .before .before .before .before .before .before .args .s .now in
+    omega (arith, c .before .before .fold .ensures, c .fold2 .ensures, load-lt s 4 4 (omega arith) (omega arith), load-lt (drop 4 s) (length s - 4) 4 (omega (arith, length-drop 4 s)) (omega arith))
 
-add-i : tie.Need-add-i Inv-loop μ-loop
-add-i c = omega arith
+fold-requires-3 : tie.Need-fold-requires-3
+fold-requires-3 c κs = search needs
 
-loop-less : tie.Need-loop-less Inv-loop μ-loop
-loop-less c = omega arith
-
-loop-again : tie.Need-loop-again Inv-loop μ-loop
-loop-again c =
-    let s = c .before .before .before .before .before .args .s .now in
-    let i = c .before .before .before .loop .i in
-    let b = c .before .shared-slice-known2 .given i in
-    (omega arith, rw (add-one, c .wide .ensures, c .before .before .before .loop .inv .1) (load-more s i (c .before .before .loop-test .taken) (b .fits)))
-
-returns : tie.Need-returns Inv-loop μ-loop
+returns : tie.Need-returns
 returns c =
-    let s = c .before .before .before .args .s .now in
-    let i = c .before .loop .i in
-    c .before .loop .inv .1 ∙ ap (λ l. val (flat 8 l)) (take-all i s (c .loop-test .left))
+    let s = c .before .before .before .before .before .before .args .s .now in
+    let rest : length s - 4 ≡ 4 = omega arith in
+    ap₂ (λ (x y : ℕ). x * 2 ^ 32 + y) (c .before .before .fold .ensures) (c .fold2 .ensures ∙ ap (λ (n : ℕ). val (flat 8 (take n (drop 4 s)))) rest) ∙ load-parts s 4 4 (omega arith)
+
+returns-2 : tie.Need-returns-2
+returns-2 c = search needs
 
 pub load-spec : {M : Type 1} → statement M
 load-spec =
     tie.close
     (tie.spec
-    Inv-loop
-    μ-loop
-    loop-holds
-    mul-x
-    shared-slice-read-wide
-    wide-requires
-    add-x
-    add-i
-    loop-less
-    loop-again
-    returns)
+    slice-aggregate-fold
+    fold-requires
+    mul-result
+    sub-fold
+    part-fold-start
+    part-fold-end
+    fold-requires-2
+    add-result
+    fold-requires-3
+    returns
+    returns-2)

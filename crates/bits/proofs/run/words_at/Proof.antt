@@ -37,8 +37,8 @@ loop-holds c =
     let a = c .before .before .args in
     (search needs, sym (ap (λ (n : ℕ). a .at + n) (zero-mul (a .w)) ∙ add-zero (a .at)), refl, unfold words in refl)
 
-bits-at-requires : tie.Need-bits-at-requires Inv-loop μ-loop
-bits-at-requires c κs =
+word-at-requires : tie.Need-word-at-requires Inv-loop μ-loop
+word-at-requires c κs =
     let a = c .before .before .before .before .args in
     let l = c .before .loop in
     (omega arith, omega (arith, next-inside (a .at) (a .w) (l .i) (length (a .out .now)) (length (a .s .now) * 8) (omega arith) (omega arith)))
@@ -66,11 +66,11 @@ loop-again c =
     let a = c .before .before .before .before .before .args in
     let l = c .before .before .loop in
     let h : l .i < length (a .out .now) = omega arith in
-    let e : c .bits-at .result ≡ val (stretch (a .at + l .i * a .w) (a .w) (flat 8 (a .s .now))) = c .bits-at .ensures ∙ ap (λ (p : ℕ). val (stretch p (a .w) (flat 8 (a .s .now)))) (l .inv .1) in (
+    let e : c .word-at .result ≡ val (stretch (a .at + l .i * a .w) (a .w) (flat 8 (a .s .now))) = c .word-at .ensures ∙ ap (λ (p : ℕ). val (stretch p (a .w) (flat 8 (a .s .now)))) (l .inv .1) in (
       omega arith,
       rw add-one (omega (arith, suc-mul (l .i) (a .w))),
-      length-set (l .out) (l .i) (c .bits-at .result) ∙ l .inv .2,
-      rw add-one (ap (λ (o : List ℕ). set o (l .i) (c .bits-at .result)) (l .inv .3) ∙ more (a .s .now) (a .at) (a .w) (l .i) (c .bits-at .result) (a .out .now) h e),
+      length-set (l .out) (l .i) (c .word-at .result) ∙ l .inv .2,
+      rw add-one (ap (λ (o : List ℕ). set o (l .i) (c .word-at .result)) (l .inv .3) ∙ more (a .s .now) (a .at) (a .w) (l .i) (c .word-at .result) (a .out .now) h e),
     )
 
 same-length : tie.Need-same-length Inv-loop μ-loop
@@ -93,7 +93,7 @@ words-at-spec =
     Inv-loop
     μ-loop
     loop-holds
-    bits-at-requires
+    word-at-requires
     mul-out
     slice-write-out
     add-p
