@@ -3,7 +3,7 @@ use Prim.Native.Nat.{ℕ, _+_, _≤_}
 use mathlib.Core.Path.{_≡_, sym, ap, ap₂, _∙_}
 use mathlib.Core.List.{List, [], _++_, append-nil, append-assoc}
 use native.Mathlib.Omega.{arith}
-use lib.ListN.{length, take, drop, length-append, drop-of-length-le}
+use lib.ListN.{length, take, drop, length-append, length-drop, drop-of-length-le, take-append-drop}
 use lib.Seq.{sets, sets-eq, take-at, drop-at, drop-drop, length-take-le}
 use borrow.Rule.Slice.PartMut.{putMid, postOf}
 
@@ -13,6 +13,13 @@ stored-whole vs r e =
     let short : 0 + length vs ≤ length r = omega arith in
     let none : length r ≤ 0 + length vs = omega arith in
     sets-eq vs r 0 short ∙ ap (λ (d : List ℕ). vs ++ d) (drop-of-length-le r none) ∙ append-nil vs
+
+-- the content of a record, and a record whose content was stored as it was
+pub length-content : (r : List ℕ) → length r ≡ 32 → length (take 14 (drop 16 r)) ≡ 14
+length-content r e = length-take-le 14 (drop 16 r) (omega (arith, length-drop 16 r))
+
+pub part-kept : (r : List ℕ) → putMid 16 14 r (take 14 (drop 16 r)) ≡ r
+part-kept r = ap (λ (l : List ℕ). take 16 r ++ l) (take-append-drop 14 (drop 16 r)) ∙ take-append-drop 16 r
 
 -- a part after what is written already
 pub next-part : (a k : ℕ) (p q ys : List ℕ) → length p ≡ a → putMid a k (p ++ q) ys ≡ (p ++ ys) ++ drop k q

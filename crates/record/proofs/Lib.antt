@@ -1,8 +1,11 @@
 pub mod Filling
 pub mod Ranges
 pub mod Bytes
-pub mod Spare
+pub mod Parts
+pub mod Zeros
+pub mod Tested
 pub mod Steps
+pub mod Readings
 pub mod Kept
 pub mod FreeFits
 pub mod Fields

@@ -51,30 +51,13 @@ byte-lt its j short k =
     let size : length (packing its ++ zeros (longest - n)) ≡ n + (longest - n) = length-append (packing its) (zeros (longest - n)) ∙ ap (λ (m : ℕ). n + m) (length-replicate (longest - n) false) in
     words-lt 8 14 j (packing its ++ zeros (longest - n)) (omega arith) k
 
--- the content bits after those of the groups, from the content
-spare-is : (r : List ℕ) → length r ≡ recordSize → contentBits r ≤ longest → spareIn r ≡ stretch (contentBits r) (longest - contentBits r) (flat 8 (contentIn r))
-spare-is r long few =
-    let within : contentBits r + (longest - contentBits r) ≤ longest = omega arith in
-    let d : 16 ≤ length r = omega arith in
-    let t : 14 ≤ length (drop 16 r) = omega (arith, length-drop 16 r) in
-    sym (stretch-within 128 longest (contentBits r) (longest - contentBits r) (flat 8 r) within)
-    ∙ ap (λ (l : List Bool). stretch (contentBits r) (longest - contentBits r) (take longest l)) (drop-flat 8 16 r d)
-    ∙ ap (stretch (contentBits r) (longest - contentBits r)) (take-flat 8 14 (drop 16 r) t)
-
-zero-take : (k : ℕ) (z : List Bool) → allZero z ≡ true → allZero (take k z) ≡ true
-unfolding allZero
-zero-take zero z e = refl
-zero-take (suc k) [] e = refl
-zero-take (suc k) (true ∷ z) e = e
-zero-take (suc k) (false ∷ z) e = zero-take k z e
-
 -- what follows other bits is zero
-zero-after : (l : List Bool) (m n w : ℕ) → length l ≤ n → allZero (stretch n w (l ++ zeros m)) ≡ true
-zero-after l m n w h =
+zero-after : (l : List Bool) (m n : ℕ) → length l ≤ n → allZero (drop n (l ++ zeros m)) ≡ true
+zero-after l m n h =
     let e : n ≡ length l + (n - length l) = omega arith in
-    ap (λ (k : ℕ). allZero (stretch k w (l ++ zeros m))) e
-    ∙ ap (λ (d : List Bool). allZero (take w d)) (drop-append-add l (zeros m) (n - length l))
-    ∙ zero-take w (drop (n - length l) (zeros m)) (allZero-drop (n - length l) (zeros m) (allZero-zeros m))
+    ap (λ (k : ℕ). allZero (drop k (l ++ zeros m))) e
+    ∙ ap allZero (drop-append-add l (zeros m) (n - length l))
+    ∙ allZero-drop (n - length l) (zeros m) (allZero-zeros m)
 
 -- one byte more that is in its range
 next-fits : (p : ℕ → Bool) (n : ℕ) → p n ≡ true → allBelow p n ≡ true → allBelow p (suc n) ≡ true
@@ -134,10 +117,9 @@ module _ (r : Report) (s : Service) (class expiry : ℕ) (c : Storable r s class
   spare-zero =
       let fit = c .report-fits in
       let its = listed (r .items) in
-      let few : contentBits made ≤ longest = omega (arith, groups-few r fit, groups-back r s class expiry) in
       let hold : length (packing its) ≤ contentBits made = omega (arith, groups-hold r fit, groups-back r s class expiry) in
-      ap allZero (spare-is made (length-made r s class expiry) few ∙ ap (stretch (contentBits made) (longest - contentBits made)) (ap (flat 8) (content-back r s class expiry) ∙ bits-back its (its-short r fit)))
-      ∙ zero-after (packing its) (longest - length (packing its)) (contentBits made) (longest - contentBits made) hold
+      ap (λ (l : List Bool). allZero (drop (contentBits made) l)) (ap (flat 8) (content-back r s class expiry) ∙ bits-back its (its-short r fit))
+      ∙ zero-after (packing its) (longest - length (packing its)) (contentBits made) hold
 
   content-byte : (j : ℕ) → j < 14 → byteAt made (16 + j) ≡ getD (bytesOf (listed (r .items))) j 0
   content-byte j k = sym (getD-take 14 (drop 16 made) j 0 k ∙ getD-drop 16 made j 0) ∙ ap (λ (l : List ℕ). getD l j 0) (content-back r s class expiry)

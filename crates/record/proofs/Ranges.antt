@@ -22,6 +22,13 @@ allBelow-at p (suc n) j h k = by-test (eqb j n) refl (allBelow-at p n j (and-lef
     by-test true e before = subst (λ (i : ℕ). p i ≡ true) (sym (eqb-true j n e)) (and-right (allBelow p n) (p n) h)
     by-test false e before = before (below (eqb-false j n e) k)
 
+pub allBelow-fails : (p : ℕ → Bool) (n j : ℕ) → j < n → p j ≡ false → allBelow p n ≡ false
+allBelow-fails p n j h e = by-test (allBelow p n) refl
+  where
+    by-test : (b : Bool) → allBelow p n ≡ b → allBelow p n ≡ false
+    by-test true f = f ∙ sym (allBelow-at p n j f h) ∙ e
+    by-test false f = f
+
 pub allBelow-add : (p : ℕ → Bool) (n m : ℕ) → allBelow p (n + m) ≡ allBelow p n && allBelow (λ k. p (n + k)) m
 unfolding allBelow
 allBelow-add p n zero = let z : n + 0 ≡ n = omega arith in ap (allBelow p) z ∙ sym (and-true (allBelow p n))

@@ -1,10 +1,10 @@
 -- The ways out of the functions on a record.
 use Prim.Native.Nat.{ℕ, _≤_}
-use mathlib.Core.Path.{_≡_, sym, ap, _∙_}
-use mathlib.Core.Bool.{Bool, true, false}
+use mathlib.Core.Path.{_≡_, refl, sym, ap, _∙_}
+use mathlib.Core.Bool.{Bool, true, false, cond, _&&_}
 use mathlib.Core.List.{List}
 use native.Mathlib.Omega.{arith}
-use lib.ListN.{take}
+use lib.ListN.{length, take}
 use lib.Seq.{take-take}
 use borrow.Author.Tests.{eq-eqb, ne-eqb}
 use Rattle.bits.specs.Bits.{num}
@@ -18,10 +18,13 @@ use Rattle.report.specs.declared.Answer.the-variants as message
 use Rattle.report.specs.Report.{singleReport}
 use Rattle.report.specs.Read.{Message, report, refusal, readBits, outcomeOf}
 use Rattle.record.specs.declared.Service.{Service}
+use Rattle.record.specs.declared.Key.{Key}
+use Rattle.record.specs.declared.Rule.{Rule}
+use Rattle.record.specs.declared.Rule.the-variants.{Expired, Matching}
 use Rattle.record.specs.declared.Answer.the-variants.{Free, Read, Refused}
-use Rattle.record.specs.Layout.{freeRecord, byteAt, groupsIn, headIn, durationIn, diversionIn, contentIn, serviceIn, expiryIn}
+use Rattle.record.specs.Layout.{recordSize, freeRecord, byteAt, groupsIn, headIn, durationIn, diversionIn, contentIn, serviceIn, expiryIn}
 use Rattle.record.specs.WellFormed.{contentBits}
-use Rattle.record.specs.Rules.{freedIf}
+use Rattle.record.specs.Rules.{falls, fallsOne, freedIf}
 use Rattle.record.specs.Reads.{messageIn, nothing, answered, readingIn}
 
 -- freeing one record
@@ -33,6 +36,49 @@ module _ (p : List ℕ → Bool) (r : List ℕ) where
   pub unfreed : p r ≡ false → (0 ≡ num (p r)) × (r ≡ freedIf p r)
   unfolding freedIf num
   unfreed e = (sym (ap num e), sym (passed-over _ _ _ e))
+
+-- a rule on bytes that are one record's, and on others
+module _ (rule : Rule) (r : List ℕ) where
+  pub one-record : length r ≡ recordSize → fallsOne rule r ≡ falls rule r
+  unfolding fallsOne
+  one-record e = ap (λ (b : Bool). b && falls rule r) (eq-eqb (length r) recordSize e)
+
+  pub no-record : (length r ≡ recordSize → ⊥) → fallsOne rule r ≡ false
+  unfolding fallsOne
+  no-record e = ap (λ (b : Bool). b && falls rule r) (ne-eqb (length r) recordSize e)
+
+  pub one-freed : length r ≡ recordSize → freedIf (fallsOne rule) r ≡ freedIf (falls rule) r
+  unfolding freedIf
+  one-freed e = ap (λ (b : Bool). cond b freeRecord r) (one-record e)
+
+-- and one after the other
+module _ (first second : Rule) (r : List ℕ) (e : length r ≡ recordSize) where
+  abbrev after : List ℕ
+  after = freedIf (falls first) r
+
+  length-after : length after ≡ recordSize
+  unfolding freedIf
+  length-after = by-test (falls first r)
+    where
+      by-test : (b : Bool) → length (cond b freeRecord r) ≡ recordSize
+      by-test true = refl
+      by-test false = e
+
+  pub two-falls : fallsOne second (freedIf (fallsOne first) r) ≡ falls second (freedIf (falls first) r)
+  two-falls = ap (fallsOne second) (one-freed first r e) ∙ one-record second after length-after
+
+  pub two-freed : freedIf (fallsOne second) (freedIf (fallsOne first) r) ≡ freedIf (falls second) (freedIf (falls first) r)
+  two-freed = ap (freedIf (fallsOne second)) (one-freed first r e) ∙ one-freed second after length-after
+
+-- a record that has expired is not freed once more
+pub freed-once : (minute : ℕ) (key : Key) (r : List ℕ) → (fallsOne (Expired minute) r ≡ false → ⊥)
+    → (0 ≡ num (fallsOne (Matching key) (freedIf (fallsOne (Expired minute)) r))) × (freedIf (fallsOne (Expired minute)) r ≡ freedIf (fallsOne (Matching key)) (freedIf (fallsOne (Expired minute)) r))
+unfolding freedIf num fallsOne falls
+freed-once minute key r h = by-test (fallsOne (Expired minute) r) refl
+  where
+    by-test : (b : Bool) → fallsOne (Expired minute) r ≡ b → (0 ≡ num (fallsOne (Matching key) (freedIf (fallsOne (Expired minute)) r))) × (freedIf (fallsOne (Expired minute)) r ≡ freedIf (fallsOne (Matching key)) (freedIf (fallsOne (Expired minute)) r))
+    by-test true e = let free : freedIf (fallsOne (Expired minute)) r ≡ freeRecord = chosen _ _ _ e in (sym (ap (λ (x : List ℕ). num (fallsOne (Matching key) x)) free), free ∙ sym (ap (freedIf (fallsOne (Matching key))) free))
+    by-test false e = absurd (h e)
 
 -- the message of a record by its groups
 module _ (r : List ℕ) where

@@ -1,8 +1,8 @@
 -- The bytes of a record (document 01, "The message table"). Numbers are little-endian.
 use Prim.Native.Nat.{ℕ, _+_, _*_}
 use mathlib.Core.Bool.{Bool}
-use mathlib.Core.List.{List}
-use lib.ListN.{take, drop, getD, replicate}
+use mathlib.Core.List.{List, [], _∷_}
+use lib.ListN.{length, take, drop, getD, replicate}
 use lib.Dec.{eqb}
 use Rattle.word.specs.declared.Head.{Head}
 use Rattle.report.specs.Record.{contentBytes}
@@ -11,6 +11,10 @@ use Rattle.record.specs.declared.Service.{Service}
 -- the bytes of a record
 abbrev pub recordSize : ℕ
 recordSize = 32
+
+-- bytes that are one record's
+abbrev pub isRecord : List ℕ → Bool
+isRecord r = eqb (length r) recordSize
 
 -- a free record is all zero
 abbrev pub freeRecord : List ℕ
@@ -47,9 +51,13 @@ diversionIn r = byteAt r 10
 abbrev pub durationIn : List ℕ → ℕ
 durationIn r = byteAt r 11
 
+-- the number of the four bytes from byte j on
+abbrev pub fourAt : List ℕ → ℕ → ℕ
+fourAt r j = byteAt r j + 0x100 * byteAt r (j + 1) + 0x1_0000 * byteAt r (j + 2) + 0x100_0000 * byteAt r (j + 3)
+
 -- the minute at which it ends
 abbrev pub expiryIn : List ℕ → ℕ
-expiryIn r = byteAt r 12 + 0x100 * byteAt r 13 + 0x1_0000 * byteAt r 14 + 0x100_0000 * byteAt r 15
+expiryIn r = fourAt r 12
 
 -- where the content begins
 abbrev pub contentPlace : ℕ
@@ -61,3 +69,8 @@ contentIn r = take contentBytes (drop contentPlace r)
 -- the update class of its first event
 abbrev pub classIn : List ℕ → ℕ
 classIn r = byteAt r 30
+
+-- the number that bytes are, the first one lowest
+unfoldable pub little : List ℕ → ℕ
+little [] = 0
+little (b ∷ bs) = little bs * 256 + b

@@ -4,15 +4,8 @@ use mathlib.Core.List.{List, [], _∷_, _++_}
 use Rattle.word.specs.declared.Head.{Head}
 use Rattle.content.specs.Stored.{listed}
 use Rattle.report.specs.declared.Report.{Report}
-use Rattle.report.specs.declared.Packing.{Packing}
-use Rattle.report.specs.declared.Packing.the-variants.{Groups, Refused}
 use Rattle.report.specs.Record.{bytesOf, groupsOf}
 use Rattle.record.specs.declared.Service.{Service}
-
--- the groups that packed content takes
-unfoldable pub packedGroups : Packing → ℕ
-packedGroups (Groups n) = n
-packedGroups (Refused n) = 0
 
 -- bytes 0 to 3: the mark of a used record, groups, SID, LTN
 abbrev pub markBytes : ℕ → Service → List ℕ

@@ -1,9 +1,9 @@
 -- What a record says (document 01, "The message table").
 use Prim.Native.Nat.{ℕ}
-use mathlib.Core.Bool.{cond}
+use mathlib.Core.Bool.{cond, _&&_, _||_}
 use mathlib.Core.List.{List}
 use lib.ListN.{take}
-use lib.Dec.{eqb}
+use lib.Dec.{eqb, leb}
 use Rattle.bits.specs.Fields.{flat}
 use Rattle.report.specs.Report.{singleReport, blank}
 use Rattle.report.specs.Read.{Message, report, refusal, readBits}
@@ -11,7 +11,7 @@ use Rattle.record.specs.declared.Service.{Service}
 use Rattle.record.specs.declared.Reading.{Reading}
 use Rattle.record.specs.declared.Answer.{Answer}
 use Rattle.record.specs.declared.Answer.the-variants.{Free, Read, Refused}
-use Rattle.record.specs.Layout.{isFree, groupsIn, headIn, durationIn, diversionIn, contentIn, serviceIn, expiryIn}
+use Rattle.record.specs.Layout.{isRecord, isFree, groupsIn, headIn, durationIn, diversionIn, contentIn, serviceIn, expiryIn}
 use Rattle.record.specs.WellFormed.{contentBits}
 
 -- the message of a used record: a single-group report, or the head with the items of the content
@@ -31,3 +31,7 @@ answered (refusal n) s expiry = nothing (Refused n)
 
 unfoldable pub readingIn : List ℕ → Reading
 readingIn r = cond (isFree r) (nothing Free) (answered (messageIn r) (serviceIn r) (expiryIn r))
+
+-- of any bytes: those of no record, and of a used one with no groups or more than five, are refused (10)
+unfoldable pub readingOf : List ℕ → Reading
+readingOf r = cond (isRecord r && (isFree r || leb 1 (groupsIn r) && leb (groupsIn r) 5)) (readingIn r) (nothing (Refused 10))

@@ -7,7 +7,7 @@ use Rattle.record.specs.declared.Service.{Service}
 use Rattle.record.specs.declared.Key.{Key}
 use Rattle.record.specs.declared.Rule.{Rule}
 use Rattle.record.specs.declared.Rule.the-variants.{Expired, Matching}
-use Rattle.record.specs.Layout.{freeRecord, byteAt, isFree, expiryIn, locationIn, directionIn, classIn}
+use Rattle.record.specs.Layout.{isRecord, freeRecord, byteAt, isFree, expiryIn, locationIn, directionIn, classIn}
 
 -- of this service
 unfoldable pub sameService : Service → List ℕ → Bool
@@ -25,3 +25,7 @@ falls (Matching k) r = not (isFree r) && sameKey k r
 -- free if a test holds, else as it was
 unfoldable pub freedIf : (List ℕ → Bool) → List ℕ → List ℕ
 freedIf p r = cond (p r) freeRecord r
+
+-- bytes that are one record's, which the rule frees
+unfoldable pub fallsOne : Rule → List ℕ → Bool
+fallsOne rule r = isRecord r && falls rule r

@@ -1,14 +1,13 @@
 -- The well-formed records (document 01, "The message table").
-use Prim.Native.Nat.{ℕ, zero, suc, _+_, _-_, _*_, _^_}
+use Prim.Native.Nat.{ℕ, zero, suc, _-_, _*_}
 use mathlib.Core.Bool.{Bool, true, cond, not, _&&_, _||_}
-use mathlib.Core.List.{List, [], _∷_, _++_}
-use lib.ListN.{getD}
+use mathlib.Core.List.{List, [], _∷_}
+use lib.ListN.{drop, getD}
 use lib.Dec.{eqb, leb}
 use Rattle.bits.specs.Bits.{allZero}
 use Rattle.bits.specs.Fields.{flat}
-use Rattle.bits.specs.Overlay.{stretch}
-use Rattle.content.specs.Packing.{groupBits, longest}
-use Rattle.record.specs.Layout.{recordSize, byteAt, isFree, groupsIn, expiryIn, contentPlace}
+use Rattle.content.specs.Packing.{groupBits}
+use Rattle.record.specs.Layout.{recordSize, byteAt, isFree, groupsIn, expiryIn, contentIn}
 
 -- the least value of each byte of a used record: its mark, one group and a class
 unfoldable pub lows : List ℕ
@@ -26,10 +25,6 @@ inRange used low high b = cond (eqb used 0) (eqb b 0) (leb low b && leb b high)
 abbrev pub byteFits : ℕ → ℕ → ℕ → Bool
 byteFits used j b = inRange used (getD lows j 0) (getD highs j 0) b
 
--- byte j of a part of it, with the limits of that part
-abbrev pub partFits : ℕ → (least greatest part : List ℕ) → ℕ → Bool
-partFits used least greatest part j = inRange used (getD least j 0) (getD greatest j 0) (getD part j 0)
-
 -- a test holds of every number below n
 unfoldable pub allBelow : (ℕ → Bool) → ℕ → Bool
 allBelow p zero = true
@@ -43,20 +38,9 @@ rangesFit r = allBelow (λ j. byteFits (byteAt r 0) j (byteAt r j)) recordSize
 abbrev pub contentBits : List ℕ → ℕ
 contentBits r = groupBits * (groupsIn r - 1)
 
--- the content bits after those of so many later groups
-abbrev pub spareAfter : ℕ → List ℕ → List Bool
-spareAfter later r = stretch (8 * contentPlace + groupBits * later) (longest - groupBits * later) (flat 8 r)
-
--- its masks: of the first 64 content bits, of the next 32 and of the last 16, for none to four later groups
-abbrev pub masksAfter : ℕ → List ℕ
-masksAfter later = (2 ^ (64 - groupBits * later) - 1) ∷ (2 ^ (32 - (groupBits * later - 64)) - 1) ∷ (2 ^ (16 - (groupBits * later - 96)) - 1) ∷ []
-
-unfoldable pub spareMasks : List ℕ
-spareMasks = masksAfter 0 ++ (masksAfter 1 ++ (masksAfter 2 ++ (masksAfter 3 ++ masksAfter 4)))
-
--- and after those of its own
+-- the content bits after those of its groups
 abbrev pub spareIn : List ℕ → List Bool
-spareIn r = spareAfter (groupsIn r - 1) r
+spareIn r = drop (contentBits r) (flat 8 (contentIn r))
 
 -- a used record ends at a minute other than 0, and its content is zero after the bits of its groups
 unfoldable pub restFits : List ℕ → Bool

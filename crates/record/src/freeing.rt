@@ -1,21 +1,34 @@
 // Which records a rule frees, and freeing them.
 ghost use mathlib.Core.Path.{_≡_};
+ghost use Prim.Native.Nat.{_+_, _≤_};
 ghost use lib.ListN.{length};
 ghost use Rattle.bits.specs.Bits.{num};
-ghost use Rattle.record.specs.Layout.{recordSize, freeRecord, expiryIn, locationIn};
+ghost use Rattle.record.specs.Layout.{recordSize, freeRecord, fourAt, expiryIn, locationIn};
 ghost use Rattle.record.specs.declared.Rule.the-variants.{Expired, Matching};
-ghost use Rattle.record.specs.Rules.{sameKey, sameService, falls, freedIf};
+ghost use Rattle.record.specs.Rules.{sameKey, sameService, falls, fallsOne, freedIf};
 use crate::Freed;
 use crate::Key;
+use crate::Record;
 use crate::Rule;
 use crate::Service;
 
+// The number that four bytes are, the first one lowest.
+pub(crate) fn four(r: &[u8], at: usize) -> u32
+    requires { ⌜ at + 4 ≤ length (now r) ⌝ }
+    ensures { λ n. ⌜ n ≡ fourAt (now (r .entry)) at ⌝ }
+{
+    r[at] as u32
+        + 0x100 * (r[at + 1] as u32)
+        + 0x1_0000 * (r[at + 2] as u32)
+        + 0x100_0000 * (r[at + 3] as u32)
+}
+
 // The minute at which the record ends.
-pub fn expiry(r: &[u8]) -> u32
+pub(crate) fn expiry(r: &[u8]) -> u32
     requires { ⌜ length (now r) ≡ recordSize ⌝ }
     ensures { λ n. ⌜ n ≡ expiryIn (now (r .entry)) ⌝ }
 {
-    r[12] as u32 + 0x100 * (r[13] as u32) + 0x1_0000 * (r[14] as u32) + 0x100_0000 * (r[15] as u32)
+    four(r, 12)
 }
 
 pub(crate) fn location(r: &[u8]) -> u16
@@ -34,7 +47,7 @@ fn same_service(r: &[u8], s: Service) -> bool
 }
 
 // Whether the record is of the same service, location, direction and update class.
-pub fn same_key(r: &[u8], key: Key) -> bool
+fn same_key(r: &[u8], key: Key) -> bool
     requires { ⌜ length (now r) ≡ recordSize ⌝ }
     ensures { λ b. ⌜ b ≡ sameKey key (now (r .entry)) ⌝ }
 {
@@ -57,12 +70,14 @@ fn falls_under(r: &[u8], rule: Rule) -> bool
     }
 }
 
-// Frees the record if the rule says so, and answers how many were freed.
+// Frees the record if the rule says so, and answers how many were freed; leaves bytes that are not one record's.
 pub fn free_if(r: &mut [u8], rule: Rule) -> usize
-    requires { ⌜ length (now r) ≡ recordSize ⌝ }
-    ensures { λ n. ⌜ n ≡ num (falls rule (now (r .entry))) ⌝ }
-    ensures { λ _. ⌜ now (r .exit) ≡ freedIf (falls rule) (now (r .entry)) ⌝ }
+    ensures { λ n. ⌜ n ≡ num (fallsOne rule (now (r .entry))) ⌝ }
+    ensures { λ _. ⌜ now (r .exit) ≡ freedIf (fallsOne rule) (now (r .entry)) ⌝ }
 {
+    if r.len() != Record::SIZE {
+        return 0;
+    }
     if falls_under(r, rule) {
         clear(r);
         1
@@ -73,11 +88,16 @@ pub fn free_if(r: &mut [u8], rule: Rule) -> usize
 
 // Frees the record if it has expired by the minute, and else if it matches, and answers how many were freed by each.
 pub fn free_gone(r: &mut [u8], minute: u32, key: Key) -> Freed
-    requires { ⌜ length (now r) ≡ recordSize ⌝ }
-    ensures { λ f. ⌜ (f .expired ≡ num (falls (Expired minute) (now (r .entry)))) × (f .matched ≡ num (falls (Matching key) (freedIf (falls (Expired minute)) (now (r .entry))))) ⌝ }
-    ensures { λ _. ⌜ now (r .exit) ≡ freedIf (falls (Matching key)) (freedIf (falls (Expired minute)) (now (r .entry))) ⌝ }
+    ensures { λ f. ⌜ (f .expired ≡ num (fallsOne (Expired minute) (now (r .entry)))) × (f .matched ≡ num (fallsOne (Matching key) (freedIf (fallsOne (Expired minute)) (now (r .entry))))) ⌝ }
+    ensures { λ _. ⌜ now (r .exit) ≡ freedIf (fallsOne (Matching key)) (freedIf (fallsOne (Expired minute)) (now (r .entry))) ⌝ }
 {
     let expired = free_if(r, Rule::Expired(minute));
+    if expired != 0 {
+        return Freed {
+            expired,
+            matched: 0,
+        };
+    }
     let matched = free_if(r, Rule::Matching(key));
     Freed { expired, matched }
 }

@@ -1,5 +1,4 @@
-// One record of the message table: its fields, its test, made from a report and read back.
-// These are inner calls: each asks of its caller that the bytes are one record's.
+// One record of the message table: its test, made from a report, freed and read back.
 pub mod freeing;
 pub mod make;
 pub mod read;
@@ -55,7 +54,4 @@ pub struct Record;
 impl Record {
     // The bytes of a record.
     pub const SIZE: usize = 32;
-
-    // The bytes that a test of its ranges takes at once.
-    pub const PART: usize = 8;
 }

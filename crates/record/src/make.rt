@@ -1,40 +1,33 @@
 // A record made from a report.
 ghost use mathlib.Core.Path.{_≡_};
-ghost use mathlib.Core.Bool.{true};
+ghost use mathlib.Core.Bool.{cond, _&&_};
 ghost use mathlib.Core.List.{[], _∷_};
-ghost use Prim.Native.Nat.{_≤_};
 ghost use lib.ListN.{length};
 ghost use Rattle.report.specs.Fits.{reportFits};
-ghost use Rattle.record.specs.Layout.{recordSize};
-ghost use Rattle.record.specs.Made.{markBytes, placeBytes, expiryBytes, packedGroups, recordOf};
+ghost use Rattle.record.specs.Layout.{isRecord};
+ghost use Rattle.record.specs.Made.{markBytes, placeBytes, expiryBytes, recordOf};
+use crate::Record;
 use crate::Service;
 use report::Packing;
 use report::Report;
 use word::Head;
 
-// Makes the bytes the record of a report that a writer takes.
+// Makes the bytes the record of a report. Leaves bytes that are not one record's, and leaves them for a report that a writer does not take.
 pub fn put(r: &mut [u8], report: Report, service: Service, class: u8, expiry: u32)
-    requires { ⌜ (length (now r) ≡ recordSize) × (reportFits report ≡ true) ⌝ }
-    ensures { λ _. ⌜ now (r .exit) ≡ recordOf report service class expiry ⌝ }
+    ensures { λ _. ⌜ now (r .exit) ≡ cond (isRecord (now (r .entry)) && reportFits report) (recordOf report service class expiry) (now (r .entry)) ⌝ }
 {
+    if r.len() != Record::SIZE {
+        return;
+    }
     let packing = report.pack_content(&mut r[16..30]);
-    let groups = groups_in(packing);
-    put_marks(&mut r[0..4], groups, service);
+    let Packing::Groups(groups) = packing else {
+        return;
+    };
+    put_marks(&mut r[0..4], groups as u8, service);
     let head = report.head;
     put_place(&mut r[4..12], head, report.diversion, report.duration);
     put_expiry(&mut r[12..16], expiry);
     put_tail(&mut r[30..32], class, service.country);
-}
-
-// The groups of packed content.
-fn groups_in(packing: Packing) -> u8
-    requires { ⌜ packedGroups packing ≤ 5 ⌝ }
-    ensures { λ n. ⌜ n ≡ packedGroups packing ⌝ }
-{
-    match packing {
-        Packing::Groups(n) => n as u8,
-        Packing::Refused(_) => 0,
-    }
 }
 
 // That the record is used, its groups, and the SID and LTN of its service.

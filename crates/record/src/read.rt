@@ -1,17 +1,16 @@
 // A record read back.
 ghost use mathlib.Core.Path.{_≡_};
-ghost use mathlib.Core.Bool.{true, false};
 ghost use Prim.Native.Nat.{_≤_};
 ghost use lib.ListN.{length, take};
 ghost use Rattle.bits.specs.Fields.{flat};
 ghost use Rattle.content.specs.Held.{bitsOf};
 ghost use Rattle.content.specs.Packing.{longest};
 ghost use Rattle.report.specs.Read.{outcomeOf};
-ghost use Rattle.record.specs.Layout.{recordSize, isFree, groupsIn, headIn, serviceIn, contentIn};
-ghost use Rattle.record.specs.WellFormed.{wellFormed};
-ghost use Rattle.record.specs.Reads.{messageIn, readingIn, nothing};
+ghost use Rattle.record.specs.Layout.{recordSize, groupsIn, headIn, serviceIn, contentIn};
+ghost use Rattle.record.specs.Reads.{messageIn, readingOf, nothing};
 use crate::Answer;
 use crate::Reading;
+use crate::Record;
 use crate::Service;
 use crate::freeing::expiry;
 use crate::freeing::location;
@@ -21,14 +20,19 @@ use report::Outcome;
 use report::Report;
 use word::Head;
 
-// The report of a well-formed record with its service and expiry, or that it is free; content that does not read as items is
-// refused (7 or 8).
+// The report of a record with its service and expiry, or that it is free. Bytes that are not one record's, or that give it no groups or
+// more than five, are refused (10), then content that does not read as items (7 or 8).
 pub fn read(r: &[u8]) -> Reading
-    requires { ⌜ (length (now r) ≡ recordSize) × (wellFormed (now r) ≡ true) ⌝ }
-    ensures { λ x. ⌜ x ≡ readingIn (now (r .entry)) ⌝ }
+    ensures { λ x. ⌜ x ≡ readingOf (now (r .entry)) ⌝ }
 {
+    if r.len() != Record::SIZE {
+        return nothing(Answer::Refused(10));
+    }
     if r[0] == 0 {
         return nothing(Answer::Free);
+    }
+    if (r[1] < 1) | (5 < r[1]) {
+        return nothing(Answer::Refused(10));
     }
     let outcome = message(r);
     let answer = outcome.answer;
@@ -61,7 +65,7 @@ pub fn nothing(answer: Answer) -> Reading
 }
 
 fn message(r: &[u8]) -> Outcome
-    requires { ⌜ (length (now r) ≡ recordSize) × (wellFormed (now r) ≡ true) × (isFree (now r) ≡ false) ⌝ }
+    requires { ⌜ (length (now r) ≡ recordSize) × (1 ≤ groupsIn (now r)) × (groupsIn (now r) ≤ 5) ⌝ }
     ensures { λ x. ⌜ x ≡ outcomeOf (messageIn (now (r .entry))) ⌝ }
 {
     let groups = r[1] as usize;

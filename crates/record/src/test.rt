@@ -1,153 +1,40 @@
-// Whether the bytes of a record are in their ranges.
+// What the test of a record looks at.
 ghost use mathlib.Core.Path.{_≡_};
-ghost use mathlib.Core.Bool.{true};
-ghost use Prim.Native.Nat.{_<_};
+ghost use mathlib.Core.Bool.{cond, not, _&&_, _||_};
 ghost use lib.ListN.{length};
-ghost use Rattle.bits.specs.Bits.{allZero};
-ghost use Rattle.record.specs.Layout.{recordSize};
-ghost use Rattle.record.specs.WellFormed.{inRange, partFits, allBelow, rangesFit, spareAfter, spareMasks, restFits};
+ghost use lib.Dec.{eqb, ltb};
+ghost use Rattle.record.specs.Layout.{isRecord, little, expiryIn, classIn};
 use crate::Record;
 use crate::freeing::expiry;
-use bits::bytes::load;
+use crate::freeing::four;
 
-impl Record {
-    // The least and the greatest value of each byte of a used record.
-    pub const LOWS: [u8; 32] = [
-        1,
-        1,
-        0,
-        0,
-        0,
-        0,
-        0,
-        0,
-        0,
-        0,
-        0,
-        0,
-        0,
-        0,
-        0,
-        0,
-        0,
-        0,
-        0,
-        0,
-        0,
-        0,
-        0,
-        0,
-        0,
-        0,
-        0,
-        0,
-        0,
-        0,
-        1,
-        0,
-    ];
-
-    pub const HIGHS: [u8; 32] = [
-        1,
-        5,
-        63,
-        63,
-        255,
-        255,
-        255,
-        7,
-        1,
-        7,
-        1,
-        7,
-        255,
-        255,
-        255,
-        255,
-        255,
-        255,
-        255,
-        255,
-        255,
-        255,
-        255,
-        255,
-        255,
-        255,
-        255,
-        255,
-        255,
-        255,
-        63,
-        15,
-    ];
-
-    // For none to four later groups, the content bits after theirs: in bytes 16 to 23, in bytes 24 to 27 and in bytes 28 and 29.
-    pub const SPARE: [u64; 15] = [
-        0xFFFF_FFFF_FFFF_FFFF,
-        0xFFFF_FFFF,
-        0xFFFF,
-        0xF_FFFF_FFFF,
-        0xFFFF_FFFF,
-        0xFFFF,
-        0xFF,
-        0xFFFF_FFFF,
-        0xFFFF,
-        0,
-        0xFFF,
-        0xFFFF,
-        0,
-        0,
-        0,
-    ];
-}
-
-// Whether a byte may be b in a record whose byte 0 is used: zero in a free record, else from low to high.
-fn byte_fits(used: u8, low: u8, high: u8, b: u8) -> bool
-    ensures { λ r. ⌜ r ≡ inRange used low high b ⌝ }
+// The row of zero bits for a record that begins with these two bytes: its groups, or 0 if it is free or has more than five.
+pub fn row_of(mark: u8, groups: u8) -> usize
+    ensures { λ n. ⌜ n ≡ cond (eqb mark 0 || ltb 5 groups) 0 groups ⌝ }
 {
-    if used == 0 {
-        b == 0
+    if (mark == 0) | (5 < groups) {
+        0
     } else {
-        (low <= b) & (b <= high)
+        groups as usize
     }
 }
 
-// Whether bytes of such a record are each in their range. No exit: the compiler makes a few tests of it.
-pub fn part_fits(used: u8, lows: &[u8], highs: &[u8], part: &[u8]) -> bool
-    requires { ⌜ (length (now lows) ≡ length (now part)) × (length (now highs) ≡ length (now part)) ⌝ }
-    ensures { λ r. ⌜ r ≡ allBelow (partFits used (now (lows .entry)) (now (highs .entry)) (now (part .entry))) (length (now (part .entry))) ⌝ }
+// The number that the eight bytes of a part are, the first byte lowest; 0 for any other number of bytes.
+pub fn number_of(part: &[u8]) -> u64
+    ensures { λ n. ⌜ n ≡ cond (eqb (length (now (part .entry))) 8) (little (now (part .entry))) 0 ⌝ }
 {
-    let mut fits = true;
-    let mut i = 0;
-    while i < part.len() {
-        fits = fits & byte_fits(used, lows[i], highs[i], part[i]);
-        i += 1;
+    if part.len() != 8 {
+        return 0;
     }
-    fits
+    four(part, 0) as u64 + 0x1_0000_0000 * four(part, 4) as u64
 }
 
-// Whether a record whose bytes are in their ranges is free, or has an expiry and no content bit after those of its groups; the masks
-// are lent, so that a pass over many records makes them once.
-pub fn rest_fits(r: &[u8], masks: &[u64]) -> bool
-    requires { ⌜ (length (now r) ≡ recordSize) × (rangesFit (now r) ≡ true) × (now masks ≡ spareMasks) ⌝ }
-    ensures { λ b. ⌜ b ≡ restFits (now (r .entry)) ⌝ }
+// Whether the bytes are one record's that ends at a minute other than 0 and has an update class.
+pub fn ends_with_class(r: &[u8]) -> bool
+    ensures { λ b. ⌜ b ≡ isRecord (now (r .entry)) && (not (eqb (expiryIn (now (r .entry))) 0) && not (eqb (classIn (now (r .entry))) 0)) ⌝ }
 {
-    if r[0] == 0 {
-        return true;
+    if r.len() != Record::SIZE {
+        return false;
     }
-    let later = r[1] as usize - 1;
-    (expiry(r) != 0) & spare_zero(r, masks, later)
-}
-
-// Whether the content bits after those of so many later groups are all zero.
-fn spare_zero(r: &[u8], masks: &[u64], later: usize) -> bool
-    requires { ⌜ (length (now r) ≡ recordSize) × (now masks ≡ spareMasks) × (later < 5) ⌝ }
-    ensures { λ b. ⌜ b ≡ allZero (spareAfter later (now (r .entry))) ⌝ }
-{
-    let high = load(&r[16..24]);
-    let middle = load(&r[24..28]);
-    let low = load(&r[28..30]);
-    let k = 3 * later;
-    (high & masks[k] == 0) & ((middle & masks[k + 1] == 0) & (low & masks[k + 2] == 0))
+    (expiry(r) != 0) & (r[30] != 0)
 }

@@ -1,82 +1,77 @@
--- The bytes of one record of the table.
+-- The parts of one record of the table.
 use Prim.Native.Nat.{ℕ, _+_, _-_, _*_, _/_, _≤_, _<_}
 use native.Mathlib.Omega.{arith}
-use mathlib.Core.Path.{_≡_, sym, ap, ap₂, _∙_}
-use mathlib.Core.Bool.{Bool, true, false, _&&_, and-false}
+use mathlib.Core.Path.{_≡_, refl, sym, ap, ap₂, subst, _∙_}
+use mathlib.Core.Bool.{Bool, true, false, cond, not, _&&_, _||_, and-false}
 use mathlib.Core.List.{List}
 use lib.ListN.{length, take, drop, getD, length-drop}
-use lib.Seq.{length-take-le, getD-take, getD-drop}
-use Rattle.record.specs.Layout.{recordSize, byteAt}
-use Rattle.record.specs.WellFormed.{lows, highs, inRange, byteFits, partFits, allBelow, rangesFit, restFits, wellFormed}
-use Rattle.record.proofs.Ranges.{allBelow-add, allBelow-same}
-use Rattle.table.proofs.Passes.{nth, byte-is, first-byte}
+use lib.Seq.{length-take-le, take-add, take-take, drop-drop, drop-at}
+use lib.Dec.{eqb, ltb}
+use borrow.Author.Tests.{eq-eqb, ltb-false, not-true, not-false}
+use Rattle.bits.proofs.Choice.{chosen}
+use Rattle.record.specs.Layout.{recordSize, isRecord, byteAt, groupsIn, expiryIn, classIn, little}
+use Rattle.record.specs.WellFormed.{allBelow, wellFormed}
+use Rattle.record.proofs.Ranges.{allBelow-fails}
+use Rattle.record.proofs.Parts.{take-lt}
+use Rattle.record.proofs.Tested.{rowOf, partZero, tested}
+use Rattle.table.proofs.Passes.{nth, byte-is, first-byte, length-nth}
 
--- whether byte k of record i is in its range
-abbrev pub byteOf : List ℕ → ℕ → ℕ → Bool
-byteOf t i k = byteFits (byteAt (nth t i) 0) k (byteAt (nth t i) k)
+-- the row of record i, from its first two bytes in the table
+pub row-is : (t : List ℕ) (i : ℕ) → cond (eqb (getD t (i * recordSize) 0) 0 || ltb 5 (getD t (i * recordSize + 1) 0)) 0 (getD t (i * recordSize + 1) 0) ≡ rowOf (nth t i)
+row-is t i = sym (ap₂ (λ (m g : ℕ). cond (eqb m 0 || ltb 5 g) 0 g) (first-byte t i) (byte-is t i 1 (omega arith)))
 
-pub byte-same : (t : List ℕ) (i j : ℕ) → j < recordSize → byteOf t i j ≡ byteFits (getD t (i * recordSize) 0) j (getD t (i * recordSize + j) 0)
-byte-same t i j h = ap₂ (λ (u b : ℕ). byteFits u j b) (first-byte t i) (byte-is t i j h)
+pub row-le : (r : List ℕ) → rowOf r ≤ 5
+row-le r = by-tests (eqb (byteAt r 0) 0) (ltb 5 (groupsIn r)) refl
+  where
+    by-tests : (a b : Bool) → ltb 5 (groupsIn r) ≡ b → cond (a || b) 0 (groupsIn r) ≤ 5
+    by-tests true b e = omega arith
+    by-tests false true e = omega arith
+    by-tests false false e = ltb-false 5 (groupsIn r) e
 
--- the bytes that are tested at once
-abbrev pub partSize : ℕ
-partSize = 8
+module _ (t : List ℕ) (i : ℕ) (inside : i < length t / recordSize) where
+  -- part j in the table, and the number that it is
+  part-at : (j : ℕ) → j < 4 → take 8 (drop (i * recordSize + j * 8) t) ≡ take 8 (drop (j * 8) (nth t i))
+  part-at j h =
+      let l = drop (i * recordSize) t in
+      let m = recordSize - j * 8 in
+      let e : j * 8 + m ≡ recordSize = omega arith in
+      sym (ap (λ (n : ℕ). take 8 (drop (j * 8) (take n l))) (sym e)
+      ∙ ap (λ (x : List ℕ). take 8 (drop (j * 8) x)) (take-add (j * 8) m l)
+      ∙ ap (take 8) (drop-at (take (j * 8) l) (take m (drop (j * 8) l)) (j * 8) (length-take-le (j * 8) l (omega (arith, length-drop (i * recordSize) t))))
+      ∙ take-take 8 m (drop (j * 8) l) (omega arith)
+      ∙ ap (take 8) (drop-drop (j * 8) (i * recordSize) t))
 
--- a part of a list
-abbrev from-to : (a b : ℕ) → List ℕ → List ℕ
-from-to a b l = take (b - a) (drop a l)
+  pub number-is : (j : ℕ) → j < 4 → let p = take (i * recordSize + j * 8 + 8 - (i * recordSize + j * 8)) (drop (i * recordSize + j * 8) t) in cond (eqb (length p) 8) (little p) 0 ≡ little (take 8 (drop (j * 8) (nth t i)))
+  number-is j h =
+      let a = i * recordSize + j * 8 in
+      let e : a + 8 - a ≡ 8 = omega arith in
+      let here = ap (λ (n : ℕ). take n (drop a t)) e in
+      let eight : length (take (a + 8 - a) (drop a t)) ≡ 8 = ap length here ∙ length-take-le 8 (drop a t) (omega (arith, length-drop a t)) in
+      chosen _ _ _ (eq-eqb (length (take (a + 8 - a) (drop a t))) 8 eight) ∙ ap little (here ∙ part-at j h)
 
--- whether the bytes of record i from j on are in their ranges, as the parts say
-abbrev pub partOf : List ℕ → ℕ → ℕ → Bool
-partOf t i j =
-    allBelow (partFits (getD t (i * recordSize) 0) (from-to j (j + partSize) lows) (from-to j (j + partSize) highs) (from-to (i * recordSize + j) (i * recordSize + (j + partSize)) t))
-    (length (from-to (i * recordSize + j) (i * recordSize + (j + partSize)) t))
+  module _ (bytes : (k : ℕ) → getD t k 0 < 256) where
+    -- the test of record i
+    record-test : wellFormed (nth t i) ≡ allBelow (partZero (nth t i) (rowOf (nth t i))) 4 && (eqb (rowOf (nth t i)) 0 || not (eqb (expiryIn (nth t i)) 0) && not (eqb (classIn (nth t i)) 0))
+    record-test = tested (nth t i) (length-nth t i inside) (λ k. take-lt recordSize (i * recordSize) t k bytes)
 
-module _ (t : List ℕ) (i j : ℕ) (inside : i < length t / recordSize) (within : j + partSize ≤ recordSize) where
-  at : (l : List ℕ) (a b k : ℕ) → b - a ≡ partSize → k < partSize → getD (from-to a b l) k 0 ≡ getD l (a + k) 0
-  at l a b k e h = ap (λ (n : ℕ). getD (take n (drop a l)) k 0) e ∙ getD-take partSize (drop a l) k 0 h ∙ getD-drop a l k 0
+    pub part-unfit : (row j : ℕ) → row ≡ rowOf (nth t i) → j < 4 → partZero (nth t i) row j ≡ false → wellFormed (nth t i) ≡ false
+    part-unfit row j e h unclear =
+        record-test
+        ∙ ap (λ (b : Bool). b && (eqb (rowOf (nth t i)) 0 || not (eqb (expiryIn (nth t i)) 0) && not (eqb (classIn (nth t i)) 0)))
+        (allBelow-fails (partZero (nth t i) (rowOf (nth t i))) 4 j h (subst (λ (n : ℕ). partZero (nth t i) n j ≡ false) e unclear))
 
-  length-of : (l : List ℕ) (a b : ℕ) → b - a ≡ partSize → a + partSize ≤ length l → length (from-to a b l) ≡ partSize
-  length-of l a b e h = ap (λ (n : ℕ). length (take n (drop a l))) e ∙ length-take-le partSize (drop a l) (omega (arith, length-drop a l))
-
-  -- the limits and the bytes are as many
-  pub part-lengths : (length (from-to j (j + partSize) lows) ≡ length (from-to (i * recordSize + j) (i * recordSize + (j + partSize)) t)) × (length (from-to j (j + partSize) highs) ≡ length (from-to (i * recordSize + j) (i * recordSize + (j + partSize)) t))
-  unfolding lows highs
-  part-lengths =
-      let here = length-of t (i * recordSize + j) (i * recordSize + (j + partSize)) (omega arith) (omega arith) in
-      (length-of lows j (j + partSize) (omega arith) (omega arith) ∙ sym here, length-of highs j (j + partSize) (omega arith) (omega arith) ∙ sym here)
-
-  part-same : partOf t i j ≡ allBelow (λ k. byteOf t i (j + k)) partSize
-  part-same =
-      let a = i * recordSize + j in
-      let b = i * recordSize + (j + partSize) in
-      let d : b - a ≡ partSize = omega arith in
-      let c : j + partSize - j ≡ partSize = omega arith in
-      let n : length (from-to a b t) ≡ partSize = length-of t a b d (omega arith) in
-      ap (allBelow (partFits (getD t (i * recordSize) 0) (from-to j (j + partSize) lows) (from-to j (j + partSize) highs) (from-to a b t))) n
-      ∙ allBelow-same _ (λ k. byteOf t i (j + k)) partSize (λ k h.
-      let s : a + k ≡ i * recordSize + (j + k) = omega arith in
-      ap₂ (λ (x y : ℕ). inRange (getD t (i * recordSize) 0) x y (getD (from-to a b t) k 0)) (at lows j (j + partSize) k c h) (at highs j (j + partSize) k c h)
-      ∙ ap (λ (x : ℕ). inRange (getD t (i * recordSize) 0) (getD lows (j + k) 0) (getD highs (j + k) 0) x) (at t a b k d h ∙ ap (λ (m : ℕ). getD t m 0) s)
-      ∙ sym (byte-same t i (j + k) (omega arith)))
-
-  pub part-next : allBelow (byteOf t i) j ≡ true → partOf t i j ≡ true → allBelow (byteOf t i) (j + partSize) ≡ true
-  part-next h k = allBelow-add (byteOf t i) j partSize ∙ ap₂ (λ (x y : Bool). x && y) h (sym part-same ∙ k)
-
-  pub part-unfit : partOf t i j ≡ false → wellFormed (nth t i) ≡ false
-  unfolding wellFormed rangesFit
-  part-unfit k =
-      let p = byteOf t i in
-      let e : j + partSize + (recordSize - (j + partSize)) ≡ recordSize = omega arith in
-      let rest = allBelow (λ n. p (j + partSize + n)) (recordSize - (j + partSize)) in
-      let here : allBelow p (j + partSize) ≡ false = allBelow-add p j partSize ∙ ap (λ (b : Bool). allBelow p j && b) (sym part-same ∙ k) ∙ and-false (allBelow p j) in
-      let all : rangesFit (nth t i) ≡ false = ap (allBelow p) (sym e) ∙ allBelow-add p (j + partSize) (recordSize - (j + partSize)) ∙ ap (λ (b : Bool). b && rest) here in
-      ap (λ (b : Bool). b && restFits (nth t i)) all
-
-pub ranges-hold : (t : List ℕ) (i j : ℕ) → j ≡ recordSize → allBelow (byteOf t i) j ≡ true → rangesFit (nth t i) ≡ true
-unfolding rangesFit
-ranges-hold t i j e h = ap (allBelow (byteOf t i)) (sym e) ∙ h
-
-pub record-is : (r : List ℕ) (b : Bool) → rangesFit r ≡ true → restFits r ≡ b → wellFormed r ≡ b
-unfolding wellFormed
-record-is r b h k = ap₂ (λ (x y : Bool). x && y) h k
+    -- the last test, as the code has it
+    pub last-test : (row j : ℕ) (b : Bool) → row ≡ rowOf (nth t i) → j ≡ 4 → allBelow (partZero (nth t i) row) j ≡ true
+        → not (eqb row 0) && not (isRecord (nth t i) && (not (eqb (expiryIn (nth t i)) 0) && not (eqb (classIn (nth t i)) 0))) ≡ b → wellFormed (nth t i) ≡ not b
+    last-test row j b e f all h =
+        let rest = not (eqb (expiryIn (nth t i)) 0) && not (eqb (classIn (nth t i)) 0) in
+        let one : isRecord (nth t i) ≡ true = eq-eqb (length (nth t i)) recordSize (length-nth t i inside) in
+        record-test
+        ∙ ap (λ (n : ℕ). allBelow (partZero (nth t i) n) 4 && (eqb n 0 || rest)) (sym e)
+        ∙ ap (λ (x : Bool). x && (eqb row 0 || rest)) (ap (allBelow (partZero (nth t i) row)) (sym f) ∙ all)
+        ∙ either (eqb row 0) rest b (ap (λ (x : Bool). not (eqb row 0) && not (x && rest)) (sym one) ∙ h)
+      where
+        either : (z e b : Bool) → not z && not e ≡ b → z || e ≡ not b
+        either true e b k = ap not k
+        either false true b k = ap not k
+        either false false b k = ap not k

@@ -6,6 +6,7 @@ pub mod Lents
 pub mod Takes
 pub mod Changes
 pub mod Gone
+pub mod Unfreed
 pub mod Accepted
 pub mod Taken
 pub mod Theorems

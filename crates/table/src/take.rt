@@ -16,7 +16,7 @@ use crate::Table;
 use crate::both::sweep_both;
 use crate::lent::catalogue_fits;
 use crate::lent::lives_fit;
-use crate::search::find_place;
+use crate::search::find_free;
 use crate::sweep::sweep;
 use crate::well_formed::table_fits;
 use clock::Utc;
@@ -151,7 +151,7 @@ fn take_cancelling(t: &mut [u8], minute: Utc, key: Key) -> Step
     }
 }
 
-// An ordinary message is stored, if steps 1 and 2 leave a record free; else it is refused (14).
+// An ordinary message is stored, if steps 1 and 2 leave a record free; else they freed none, and it is refused (14).
 fn take_ordinary(
     t: &mut [u8],
     last: Utc,
@@ -164,18 +164,18 @@ fn take_ordinary(
     ensures { λ s. ⌜ s ≡ ordinaryStep (now (t .entry)) (last .0) (minute .0) key ⌝ }
     ensures { λ _. ⌜ now (t .exit) ≡ ordinaryTable (now (t .entry)) (minute .0) key (recordOf report (key .service) (key .class) expiry) ⌝ }
 {
-    let place = find_place(t, minute.0, key);
+    let both = sweep_both(t, minute.0, key);
+    let place = find_free(t);
     if t.len() / Record::SIZE <= place {
         return refused(last, 14);
     }
-    let freed = sweep_both(t, minute.0, key);
     let service = key.service;
     put_at(t, place, report, service, key.class, expiry);
     Step {
         last: minute,
         answer: Answer::Stored {
-            expired: freed.expired,
-            matched: freed.matched,
+            expired: both.expired,
+            matched: both.matched,
             place,
         },
     }

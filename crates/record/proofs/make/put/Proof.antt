@@ -1,18 +1,27 @@
--- The parts in their places.
+-- The parts in their places, or nothing changed.
 use Prim.Native.Nat.{ℕ}
-use mathlib.Core.Path.{_≡_, refl, ap, _∙_}
+use mathlib.Core.Path.{_≡_, refl, sym, ap, ap₂, _∙_}
+use mathlib.Core.Bool.{Bool, _&&_}
 use mathlib.Core.List.{[], _∷_}
 use native.Mathlib.Omega.{arith}
-use lib.ListN.{length, take, drop, length-drop}
-use lib.Seq.{length-take-le}
+use lib.ListN.{length, take, drop}
+use borrow.Rule.Slice.PartMut.{putMid}
+use borrow.Author.Tests.{eq-eqb, ne-eqb}
+use Rattle.bits.proofs.Choice.{chosen, passed-over}
 use Rattle.content.specs.Stored.{listed}
+use Rattle.report.specs.Fits.{reportFits}
 use Rattle.report.specs.Record.{bytesOf, groupsOf}
-use Rattle.record.specs.Made.{packedGroups, markBytes, placeBytes, expiryBytes, recordOf}
-use Rattle.record.proofs.Filling.{written}
-use Rattle.record.proofs.Kept.{length-bytes, groups-few, packed-groups, packed-bytes}
+use Rattle.record.specs.Made.{markBytes, placeBytes, expiryBytes, recordOf}
+use Rattle.record.proofs.Filling.{length-content, part-kept, written}
+use Rattle.record.proofs.Kept.{length-bytes, groups-few, packed-bytes, groups-told, refused-told}
 use borrow.Author.Needs.{needs}
 use Rattle.record.proofs.make.put.Statement.{statement}
 use Rattle.record.proofs.make.put.Tie as tie
+
+returns : tie.Need-returns
+returns c =
+    let a = c .before .before .args in
+    sym (passed-over _ _ _ (ap (λ (b : Bool). b && reportFits (a .report)) (ne-eqb (length (a .r .now)) 32 (c .if1 .taken))))
 
 sub-pack-content : tie.Need-sub-pack-content
 sub-pack-content c = search needs
@@ -26,12 +35,22 @@ part-pack-content-end c = search needs
 pack-content-requires : tie.Need-pack-content-requires
 pack-content-requires c κs = search needs
 
-groups-in-requires : tie.Need-groups-in-requires
-groups-in-requires c κs =
-    let b = c .before .before .before .before .before in
-    let out = take 14 (drop 16 (b .args .r .now)) in
-    let long : length out ≡ 14 = length-take-le 14 (drop 16 (b .args .r .now)) (omega (arith, length-drop 16 (b .args .r .now), b .pre .0)) in
-    omega (arith, ap packedGroups (c .before .before .pack-content .ensures .0), packed-groups (b .args .report) (b .pre .1) out long, groups-few (b .args .report) (b .pre .1))
+enum-known-packing : tie.Need-enum-known-packing
+enum-known-packing c = search needs
+
+enum-told : tie.Need-enum-told
+enum-told c = search needs
+
+same-length : tie.Need-same-length
+same-length c = search needs
+
+returns-2 : tie.Need-returns-2
+returns-2 c =
+    let a = c .before .before .before .before .before .before .before .before .args in
+    let long = c .before .before .before .before .before .before .if1 .left in
+    let packing = c .before .before .before .before .pack-content in
+    let told = refused-told (a .report) (take 14 (drop 16 (a .r .now))) (c .enum-told .given .0 .0) (length-content (a .r .now) long) (sym (c .enum-told .given .1) ∙ packing .ensures .0) in
+    ap (putMid 16 14 (a .r .now)) (packing .ensures .1 ∙ told .1) ∙ part-kept (a .r .now) ∙ sym (passed-over _ _ _ (ap₂ (λ (x y : Bool). x && y) (eq-eqb (length (a .r .now)) 32 long) (told .0)))
 
 sub-put-marks : tie.Need-sub-put-marks
 sub-put-marks c = search needs
@@ -41,6 +60,13 @@ part-put-marks-start c = search needs
 
 part-put-marks-end : tie.Need-part-put-marks-end
 part-put-marks-end c = search needs
+
+cast-put-marks : tie.Need-cast-put-marks
+cast-put-marks c =
+    let a = c .before .before .before .before .before .before .before .before .before .before .args in
+    let packing = c .before .before .before .before .before .before .pack-content in
+    let told = groups-told (a .report) (take 14 (drop 16 (a .r .now))) (c .before .before .packing .given .0 .0) (length-content (a .r .now) (c .before .before .before .before .before .before .before .before .if1 .left)) (sym (c .before .before .packing .given .1) ∙ packing .ensures .0) in
+    omega (arith, told .1, groups-few (a .report) (told .0))
 
 put-marks-requires : tie.Need-put-marks-requires
 put-marks-requires c κs = search needs
@@ -81,37 +107,41 @@ part-put-tail-end c = search needs
 put-tail-requires : tie.Need-put-tail-requires
 put-tail-requires c κs = search needs
 
-same-length : tie.Need-same-length
-same-length c = search needs
+same-length-2 : tie.Need-same-length-2
+same-length-2 c = search needs
 
-returns : tie.Need-returns
+returns-3 : tie.Need-returns-3
 unfolding recordOf
-returns c =
-    let b = c .before .before .before .before .before .before .before .before .before .before .before .before .before .before .before .before .before .before .before .before .before .before .before in
-    let a = b .args in
+returns-3 c =
+    let a = c .before .before .before .before .before .before .before .before .before .before .before .before .before .before .before .before .before .before .before .before .before .before .before .before .before .before .args in
     let xs = a .r .now in
+    let long = c .before .before .before .before .before .before .before .before .before .before .before .before .before .before .before .before .before .before .before .before .before .before .before .before .if1 .left in
     let out = take 14 (drop 16 xs) in
-    let long : length out ≡ 14 = length-take-le 14 (drop 16 xs) (omega (arith, length-drop 16 xs, b .pre .0)) in
-    let g : c .before .before .before .before .before .before .before .before .before .before .before .before .before .before .before .before .before .groups-in .result ≡ groupsOf (a .report) = c .before .before .before .before .before .before .before .before .before .before .before .before .before .before .before .before .before .groups-in .ensures ∙ ap packedGroups (c .before .before .before .before .before .before .before .before .before .before .before .before .before .before .before .before .before .before .before .before .pack-content .ensures .0) ∙ packed-groups (a .report) (b .pre .1) out long in
-    let bs : c .before .before .before .before .before .before .before .before .before .before .before .before .before .before .before .before .before .before .before .before .pack-content .last .1 .0 ≡ bytesOf (listed (a .report .items)) = c .before .before .before .before .before .before .before .before .before .before .before .before .before .before .before .before .before .before .before .before .pack-content .ensures .1 ∙ packed-bytes (a .report) (b .pre .1) out long in
-    let m : c .before .before .before .before .before .before .before .before .before .before .before .before .before .before .before .put-marks .last .0 ≡ markBytes (groupsOf (a .report)) (a .service) = c .before .before .before .before .before .before .before .before .before .before .before .before .before .before .before .put-marks .ensures ∙ ap (λ (n : ℕ). markBytes n (a .service)) g in
-    let p : c .before .before .before .before .before .before .before .before .before .before .put-place .last .0 ≡ placeBytes (a .report .head) (a .report .diversion) (a .report .duration) = c .before .before .before .before .before .before .before .before .before .before .put-place .ensures in
-    let e : c .before .before .before .before .before .before .put-expiry .last .0 ≡ expiryBytes (a .expiry) = c .before .before .before .before .before .before .put-expiry .ensures in
-    let t : c .before .before .put-tail .last .0 ≡ a .class ∷ a .service .country ∷ [] = c .before .before .put-tail .ensures in
-    written xs _ _ _ _ _ (bytesOf (listed (a .report .items))) (markBytes (groupsOf (a .report)) (a .service)) (placeBytes (a .report .head) (a .report .diversion) (a .report .duration)) (expiryBytes (a .expiry)) (a .class ∷ a .service .country ∷ []) bs m p e t (b .pre .0) (length-bytes (listed (a .report .items))) refl refl refl
+    let packing = c .before .before .before .before .before .before .before .before .before .before .before .before .before .before .before .before .before .before .before .before .before .before .pack-content in
+    let groups = c .before .before .before .before .before .before .before .before .before .before .before .before .before .before .before .before .before .before .packing .given in
+    let told = groups-told (a .report) out (groups .0 .0) (length-content xs long) (sym (groups .1) ∙ packing .ensures .0) in
+    let bs = packing .ensures .1 ∙ packed-bytes (a .report) (told .0) out (length-content xs long) in
+    let m = c .before .before .before .before .before .before .before .before .before .before .before .before .before .before .before .put-marks .ensures ∙ ap (λ (n : ℕ). markBytes n (a .service)) (told .1) in
+    written xs _ _ _ _ _ (bytesOf (listed (a .report .items))) (markBytes (groupsOf (a .report)) (a .service)) (placeBytes (a .report .head) (a .report .diversion) (a .report .duration)) (expiryBytes (a .expiry)) (a .class ∷ a .service .country ∷ []) bs m (c .before .before .before .before .before .before .before .before .before .before .put-place .ensures) (c .before .before .before .before .before .before .put-expiry .ensures) (c .before .before .put-tail .ensures) long (length-bytes (listed (a .report .items))) refl refl refl
+    ∙ sym (chosen _ _ _ (ap₂ (λ (x y : Bool). x && y) (eq-eqb (length xs) 32 long) (told .0)))
 
 pub put-spec : {M : Type 1} → statement M
 put-spec =
     tie.close
     (tie.spec
+    returns
     sub-pack-content
     part-pack-content-start
     part-pack-content-end
     pack-content-requires
-    groups-in-requires
+    enum-known-packing
+    enum-told
+    same-length
+    returns-2
     sub-put-marks
     part-put-marks-start
     part-put-marks-end
+    cast-put-marks
     put-marks-requires
     sub-put-place
     part-put-place-start
@@ -125,5 +155,5 @@ put-spec =
     part-put-tail-start
     part-put-tail-end
     put-tail-requires
-    same-length
-    returns)
+    same-length-2
+    returns-3)

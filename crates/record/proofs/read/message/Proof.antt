@@ -9,9 +9,6 @@ use Rattle.report.specs.Read.{report, readBits, outcomeOf}
 use Rattle.record.specs.Layout.{durationIn, diversionIn}
 use Rattle.record.proofs.Steps.{single-message, multi-message, held-bits}
 use native.Mathlib.Omega.{arith}
-use lib.ListN.{getD}
-use borrow.Author.Tests.{eqb-false}
-use Rattle.record.proofs.Ranges.{groups-range, ranges-of}
 use borrow.Author.Needs.{needs}
 use Rattle.record.proofs.read.message.Statement.{statement}
 use Rattle.record.proofs.read.message.Tie as tie
@@ -38,10 +35,10 @@ content-requires : tie.Need-content-requires
 content-requires c κs = search needs
 
 sub-multi : tie.Need-sub-multi
-sub-multi c = groups-range (c .before .before .before .before .before .args .r .now) (ranges-of (c .before .before .before .before .before .args .r .now) (c .before .before .before .before .before .pre .1)) (eqb-false (getD (c .before .before .before .before .before .args .r .now) 0 0) 0 (c .before .before .before .before .before .pre .2)) .0
+sub-multi c = c .before .before .before .before .before .pre .1
 
 mul-multi : tie.Need-mul-multi
-mul-multi c = omega (arith, groups-range (c .before .before .before .before .before .args .r .now) (ranges-of (c .before .before .before .before .before .args .r .now) (c .before .before .before .before .before .pre .1)) (eqb-false (getD (c .before .before .before .before .before .args .r .now) 0 0) 0 (c .before .before .before .before .before .pre .2)))
+mul-multi c = omega (arith, c .before .before .before .before .before .pre .2)
 
 multi-requires : tie.Need-multi-requires
 multi-requires c κs = search needs
@@ -57,9 +54,8 @@ returns-2 : tie.Need-returns-2
 returns-2 c =
     let b = c .before .before .before .before .before .before in
     let r = b .args .r .now in
-    let range = groups-range r (ranges-of r (b .pre .1)) (eqb-false (getD r 0 0) 0 (b .pre .2)) in
     c .multi .ensures
-    ∙ ap₂ (λ (h : Head) (l : List Bool). outcomeOf (readBits h l)) (c .before .before .before .head .ensures) (held-bits r (c .before .content .result) (range .1) (c .before .content .ensures))
+    ∙ ap₂ (λ (h : Head) (l : List Bool). outcomeOf (readBits h l)) (c .before .before .before .head .ensures) (held-bits r (c .before .content .result) (b .pre .2) (c .before .content .ensures))
     ∙ sym (ap outcomeOf (multi-message r (c .before .before .if1 .left)))
 
 pub message-spec : {M : Type 1} → statement M

@@ -7,11 +7,12 @@ use borrow.Author.Tests.{not-true, not-false, le-leb, lt-leb}
 use Rattle.bits.proofs.Choice.{chosen, passed-over}
 use Rattle.record.specs.Layout.{recordSize}
 use Rattle.record.specs.WellFormed.{wellFormed}
-use Rattle.record.specs.Reads.{readingIn}
+use Rattle.record.specs.Reads.{readingIn, readingOf}
+use Rattle.record.proofs.Readings.{fit-reading}
 use Rattle.table.specs.Records.{records}
 use Rattle.table.specs.Lent.{tableFits}
 use Rattle.table.specs.Read.{recordAt}
-use Rattle.table.proofs.Passes.{part-is, length-part}
+use Rattle.table.proofs.Passes.{nth, part-is, length-nth}
 use Rattle.table.proofs.Lents.{table-records, chunk-at, all-at}
 use borrow.Author.Needs.{needs}
 use Rattle.table.proofs.Table.read.Statement.{statement}
@@ -58,13 +59,7 @@ part-read-end : tie.Need-part-read-end
 part-read-end c = search needs
 
 read-requires : tie.Need-read-requires
-unfolding records
-read-requires c κs =
-    let a = c .before .before .before .before .before .args in
-    let t = a .t .now in
-    let on : tableFits t ≡ true = sym (c .before .before .before .table-fits .ensures) ∙ not-false (c .before .before .before .table-fits .result) (c .before .before .if1 .left) in
-    let h : a .i < length t / recordSize = c .before .if2 .left in
-    (length-part t (a .i) h, ap wellFormed (part-is t (a .i)) ∙ all-at wellFormed (length t / recordSize) (a .i) t (table-records t on) h)
+read-requires c κs = search needs
 
 returns-3 : tie.Need-returns-3
 unfolding recordAt records
@@ -73,8 +68,11 @@ returns-3 c =
     let t = a .t .now in
     let on : tableFits t ≡ true = sym (c .before .before .before .before .table-fits .ensures) ∙ not-false (c .before .before .before .before .table-fits .result) (c .before .before .before .if1 .left) in
     let h : a .i < length t / recordSize = c .before .before .if2 .left in
+    let fit : wellFormed (nth t (a .i)) ≡ true = all-at wellFormed (length t / recordSize) (a .i) t (table-records t on) h in
     c .read .ensures
-    ∙ ap readingIn (part-is t (a .i) ∙ sym (chunk-at (length t / recordSize) (a .i) t h))
+    ∙ ap readingOf (part-is t (a .i))
+    ∙ fit-reading (nth t (a .i)) (length-nth t (a .i) h) fit
+    ∙ ap readingIn (sym (chunk-at (length t / recordSize) (a .i) t h))
     ∙ sym (chosen _ _ _ on ∙ passed-over _ _ _ (lt-leb (length t / recordSize) (a .i) h))
 
 pub read-spec : {M : Type 1} → statement M

@@ -6,13 +6,15 @@ use mathlib.Core.List.{List}
 use lib.ListN.{length, take, drop}
 use Rattle.bits.specs.Bits.{num}
 use Rattle.record.specs.Layout.{recordSize}
-use Rattle.record.specs.Rules.{freedIf}
+use Rattle.record.specs.declared.Rule.the-variants.{Expired, Matching}
+use Rattle.record.specs.Rules.{fallsOne, freedIf}
+use Rattle.record.proofs.Steps.{one-record, two-falls, two-freed}
 use Rattle.table.specs.Records.{chunks, countIf}
 use Rattle.table.specs.Expire.{expired}
-use Rattle.table.specs.Take.{matching}
 use Rattle.table.proofs.Passes.{length-nth}
 use Rattle.table.proofs.Sweeps.{num-le, count-le, swept, sweep-none, same-record, sweep-next, count-next, swept-all, counted-all, length-swept}
 use Rattle.table.proofs.Gone.{gone, matched, freed-at-once, matched-once, both-at-once, matched-counted}
+use borrow.Author.Needs.{needs}
 use Rattle.table.proofs.both.sweep_both.Statement.{statement}
 use Rattle.table.proofs.both.sweep_both.Tie as tie
 
@@ -50,24 +52,19 @@ part-free-gone-end c =
     omega (arith, ap length (l .inv .1), length-swept (gone (a .minute) (a .key)) (l .i) (a .t .now) (l .inv .0))
 
 free-gone-requires : tie.Need-free-gone-requires Inv-loop μ-loop
-free-gone-requires c κs =
-    let a = c .before .before .before .before .args in
-    let t₀ = a .t .now in
-    let l = c .before .before .loop in
-    let h : l .i < length t₀ / recordSize = omega arith in
-    ap length (same-record (gone (a .minute) (a .key)) (l .i) t₀ (l .t) h (l .inv .1)) ∙ length-nth t₀ (l .i) h
+free-gone-requires c κs = search needs
 
 add-expired : tie.Need-add-expired Inv-loop μ-loop
 add-expired c =
     let a = c .before .before .before .before .before .before .before .before .args in
     let l = c .before .before .before .before .before .before .loop in
-    omega (arith, l .inv .2, count-le (expired (a .minute)) (l .i) (a .t .now), c .before .before .before .free-gone .ensures .0 .0, num-le (expired (a .minute) (part (l .t) (l .i))))
+    omega (arith, l .inv .2, count-le (expired (a .minute)) (l .i) (a .t .now), c .before .before .before .free-gone .ensures .0 .0, num-le (fallsOne (Expired (a .minute)) (part (l .t) (l .i))))
 
 add-matched : tie.Need-add-matched Inv-loop μ-loop
 add-matched c =
     let a = c .before .before .before .before .before .before .before .before .before .args in
     let l = c .before .before .before .before .before .before .before .loop in
-    omega (arith, l .inv .3, count-le (matched (a .minute) (a .key)) (l .i) (a .t .now), c .before .before .before .before .free-gone .ensures .0 .1, num-le (matching (a .key) (freedIf (expired (a .minute)) (part (l .t) (l .i)))))
+    omega (arith, l .inv .3, count-le (matched (a .minute) (a .key)) (l .i) (a .t .now), c .before .before .before .before .free-gone .ensures .0 .1, num-le (fallsOne (Matching (a .key)) (freedIf (fallsOne (Expired (a .minute))) (part (l .t) (l .i)))))
 
 add-i : tie.Need-add-i Inv-loop μ-loop
 add-i c = omega arith
@@ -83,12 +80,15 @@ loop-again c =
     let p = gone (a .minute) (a .key) in
     let f = c .before .before .before .before .free-gone in
     let r = part (l .t) (l .i) in
-    let h : l .i < length t₀ / recordSize = omega arith in (
+    let h : l .i < length t₀ / recordSize = omega arith in
+    let long : length r ≡ recordSize = ap length (same-record p (l .i) t₀ (l .t) h (l .inv .1)) ∙ length-nth t₀ (l .i) h in
+    let first = Expired (a .minute) in
+    let second = Matching (a .key) in (
       omega arith,
-      sweep-next p (l .i) t₀ (l .t) h (l .inv .1) (f .last .0) (f .ensures .1 ∙ freed-at-once (a .minute) (a .key) r),
-      ap (λ (n : ℕ). n + f .result .expired) (l .inv .2) ∙ count-next p (l .i) t₀ (l .t) h (l .inv .1) (expired (a .minute)) (f .result .expired) (f .ensures .0 .0),
+      sweep-next p (l .i) t₀ (l .t) h (l .inv .1) (f .last .0) (f .ensures .1 ∙ two-freed first second r long ∙ freed-at-once (a .minute) (a .key) r),
+      ap (λ (n : ℕ). n + f .result .expired) (l .inv .2) ∙ count-next p (l .i) t₀ (l .t) h (l .inv .1) (expired (a .minute)) (f .result .expired) (f .ensures .0 .0 ∙ ap num (one-record first r long)),
       ap (λ (n : ℕ). n + f .result .matched) (l .inv .3)
-          ∙ count-next p (l .i) t₀ (l .t) h (l .inv .1) (matched (a .minute) (a .key)) (f .result .matched) (f .ensures .0 .1 ∙ ap num (matched-once (a .minute) (a .key) r)),
+          ∙ count-next p (l .i) t₀ (l .t) h (l .inv .1) (matched (a .minute) (a .key)) (f .result .matched) (f .ensures .0 .1 ∙ ap num (two-falls first second r long ∙ matched-once (a .minute) (a .key) r)),
     )
 
 same-length : tie.Need-same-length Inv-loop μ-loop

@@ -4,10 +4,13 @@ use mathlib.Core.Path.{_≡_, refl, ap, _∙_}
 use native.Mathlib.Omega.{arith}
 use lib.ListN.{length, take, drop}
 use Rattle.record.specs.Layout.{recordSize}
-use Rattle.record.specs.Rules.{falls}
+use Rattle.bits.specs.Bits.{num}
+use Rattle.record.specs.Rules.{falls, fallsOne}
+use Rattle.record.proofs.Steps.{one-record, one-freed}
 use Rattle.table.specs.Records.{chunks, countIf}
 use Rattle.table.proofs.Passes.{length-nth}
 use Rattle.table.proofs.Sweeps.{num-le, count-le, swept, sweep-none, same-record, sweep-next, count-next, swept-all, counted-all, length-swept}
+use borrow.Author.Needs.{needs}
 use Rattle.table.proofs.sweep.sweep.Statement.{statement}
 use Rattle.table.proofs.sweep.sweep.Tie as tie
 
@@ -42,13 +45,7 @@ part-free-if-end c =
     omega (arith, ap length (l .inv .1), length-swept p (l .i) t₀ (l .inv .0))
 
 free-if-requires : tie.Need-free-if-requires Inv-loop μ-loop
-free-if-requires c κs =
-    let a = c .before .before .before .before .args in
-    let t₀ = a .t .now in
-    let l = c .before .before .loop in
-    let p = falls (a .rule) in
-    let h : l .i < length t₀ / recordSize = omega arith in
-    ap length (same-record p (l .i) t₀ (l .t) h (l .inv .1)) ∙ length-nth t₀ (l .i) h
+free-if-requires c κs = search needs
 
 add-freed : tie.Need-add-freed Inv-loop μ-loop
 add-freed c =
@@ -56,7 +53,7 @@ add-freed c =
     let t₀ = a .t .now in
     let l = c .before .before .before .before .before .loop in
     let p = falls (a .rule) in
-    omega (arith, l .inv .2, count-le p (l .i) t₀, c .before .before .free-if .ensures .0, num-le (p (take (l .i * recordSize + recordSize - l .i * recordSize) (drop (l .i * recordSize) (l .t)))))
+    omega (arith, l .inv .2, count-le p (l .i) t₀, c .before .before .free-if .ensures .0, num-le (fallsOne (a .rule) (take (l .i * recordSize + recordSize - l .i * recordSize) (drop (l .i * recordSize) (l .t)))))
 
 add-i : tie.Need-add-i Inv-loop μ-loop
 add-i c = omega arith
@@ -71,10 +68,12 @@ loop-again c =
     let l = c .before .before .before .before .before .loop in
     let p = falls (a .rule) in
     let f = c .before .before .free-if in
-    let h : l .i < length t₀ / recordSize = omega arith in (
+    let h : l .i < length t₀ / recordSize = omega arith in
+    let r = take (l .i * recordSize + recordSize - l .i * recordSize) (drop (l .i * recordSize) (l .t)) in
+    let long : length r ≡ recordSize = ap length (same-record p (l .i) t₀ (l .t) h (l .inv .1)) ∙ length-nth t₀ (l .i) h in (
       omega arith,
-      sweep-next p (l .i) t₀ (l .t) h (l .inv .1) (f .last .0) (f .ensures .1),
-      ap (λ (n : ℕ). n + f .result) (l .inv .2) ∙ count-next p (l .i) t₀ (l .t) h (l .inv .1) p (f .result) (f .ensures .0),
+      sweep-next p (l .i) t₀ (l .t) h (l .inv .1) (f .last .0) (f .ensures .1 ∙ one-freed (a .rule) r long),
+      ap (λ (n : ℕ). n + f .result) (l .inv .2) ∙ count-next p (l .i) t₀ (l .t) h (l .inv .1) p (f .result) (f .ensures .0 ∙ ap num (one-record (a .rule) r long)),
     )
 
 same-length : tie.Need-same-length Inv-loop μ-loop

@@ -1,30 +1,35 @@
--- The records passed are well-formed, and of this one the parts passed have their bytes in their ranges.
-use Prim.Native.Nat.{_+_, _-_, _*_, _/_, _%_, _≤_, _<_}
-use mathlib.Core.Path.{_≡_, refl, sym, ap, _∙_}
+-- The records passed are well-formed, and of this one the parts passed have zeros where their masks say.
+use Prim.Native.Nat.{ℕ, _+_, _-_, _*_, _/_, _≤_, _<_}
+use mathlib.Core.Path.{_≡_, refl, sym, ap, ap₂, _∙_}
+use native.Mathlib.Numerals.{add-one}
 use native.Mathlib.Omega.{arith}
-use mathlib.Core.Bool.{Bool, true, false, _&&_}
-use lib.ListN.{length, drop}
-use borrow.Author.Tests.{not-true, not-false}
-use Rattle.record.specs.Layout.{recordSize}
-use Rattle.record.specs.WellFormed.{lows, highs, allBelow, rangesFit, spareMasks, restFits, wellFormed}
+use mathlib.Core.Bool.{Bool, true, false, not, _&&_}
+use mathlib.Core.List.{List}
+use lib.ListN.{length, drop, getD}
+use lib.Dec.{eqb}
+use lib.Bits.{bitAnd}
+use borrow.Author.Tests.{eq-eqb, ne-eqb}
+use Rattle.record.specs.Layout.{recordSize, isRecord, expiryIn, classIn}
+use Rattle.record.specs.WellFormed.{allBelow, wellFormed}
+use Rattle.record.proofs.Tested.{zeroBits, partZero}
 use Rattle.table.specs.Records.{chunks, records, allOf}
-use Rattle.table.proofs.Bytes.{byteOf, partSize, partOf, part-lengths, part-next, part-unfit, ranges-hold, record-is}
-use Rattle.table.proofs.Passes.{nth, part-is, length-part, rest-whole, all-next, all-end}
+use Rattle.table.proofs.Bytes.{row-is, row-le, number-is, part-unfit, last-test}
+use Rattle.table.proofs.Passes.{nth, part-is, rest-whole, all-next, all-end}
 use borrow.Author.Needs.{needs}
 use Rattle.table.proofs.well_formed.records_fit.Statement.{statement}
 use Rattle.table.proofs.well_formed.records_fit.Tie as tie
 
 abbrev Inv-loop : tie.InvT-loop
-Inv-loop t n lo hi masks i a e used j₀ j = (j ≤ recordSize) × (j % partSize ≡ 0) × (allBelow (byteOf t i) j ≡ true)
+Inv-loop t n zeros i a e row j₀ j = (j ≤ 4) × (allBelow (partZero (nth t i) row) j ≡ true)
 
 abbrev μ-loop : tie.MeasureT-loop
-μ-loop t n lo hi masks i a e used j₀ j = recordSize - j
+μ-loop t n zeros i a e row j₀ j = 4 - j
 
 abbrev Inv-records : tie.InvT-records
-Inv-records t n lo hi masks i₀ i = (i ≤ n) × (allOf wellFormed (chunks n t) ≡ allOf wellFormed (chunks (n - i) (drop (i * recordSize) t)))
+Inv-records t n zeros i₀ i = (i ≤ n) × (allOf wellFormed (chunks n t) ≡ allOf wellFormed (chunks (n - i) (drop (i * recordSize) t)))
 
 abbrev μ-records : tie.MeasureT-records
-μ-records t n lo hi masks i₀ i = n - i
+μ-records t n zeros i₀ i = n - i
 
 records-holds : tie.Need-records-holds Inv-loop μ-loop Inv-records μ-records
 records-holds c = (omega arith, sym (ap (allOf wellFormed) (rest-whole (length (c .before .args .t .now) / recordSize) (c .before .args .t .now))))
@@ -35,15 +40,25 @@ mul-a c = omega arith
 add-e : tie.Need-add-e Inv-loop μ-loop Inv-records μ-records
 add-e c = omega arith
 
-shared-slice-read-used : tie.Need-shared-slice-read-used Inv-loop μ-loop Inv-records μ-records
-shared-slice-read-used c = omega arith
+shared-slice-read-row-of : tie.Need-shared-slice-read-row-of Inv-loop μ-loop Inv-records μ-records
+shared-slice-read-row-of c = omega arith
+
+add-row-of : tie.Need-add-row-of Inv-loop μ-loop Inv-records μ-records
+add-row-of c = omega arith
+
+shared-slice-read-row-of-2 :
+    tie.Need-shared-slice-read-row-of-2 Inv-loop μ-loop Inv-records μ-records
+shared-slice-read-row-of-2 c = omega arith
+
+row-of-requires : tie.Need-row-of-requires Inv-loop μ-loop Inv-records μ-records
+row-of-requires c κs = search needs
 
 loop-holds : tie.Need-loop-holds Inv-loop μ-loop Inv-records μ-records
 unfolding allBelow
-loop-holds c = (omega arith, omega arith, refl)
+loop-holds c = (omega arith, refl)
 
-add-k : tie.Need-add-k Inv-loop μ-loop Inv-records μ-records
-add-k c = omega arith
+mul-from : tie.Need-mul-from Inv-loop μ-loop Inv-records μ-records
+mul-from c = omega arith
 
 add-from : tie.Need-add-from Inv-loop μ-loop Inv-records μ-records
 add-from c = omega arith
@@ -51,79 +66,77 @@ add-from c = omega arith
 add-to : tie.Need-add-to Inv-loop μ-loop Inv-records μ-records
 add-to c = omega arith
 
-sub-part-fits : tie.Need-sub-part-fits Inv-loop μ-loop Inv-records μ-records
-sub-part-fits c = omega arith
+sub-number-of : tie.Need-sub-number-of Inv-loop μ-loop Inv-records μ-records
+sub-number-of c = omega arith
 
-part-part-fits-start : tie.Need-part-part-fits-start Inv-loop μ-loop Inv-records μ-records
-part-part-fits-start c = omega arith
+part-number-of-start : tie.Need-part-number-of-start Inv-loop μ-loop Inv-records μ-records
+part-number-of-start c = omega arith
 
-part-part-fits-end : tie.Need-part-part-fits-end Inv-loop μ-loop Inv-records μ-records
-part-part-fits-end c = omega arith
+part-number-of-end : tie.Need-part-number-of-end Inv-loop μ-loop Inv-records μ-records
+part-number-of-end c = omega arith
 
-sub-part-fits-2 : tie.Need-sub-part-fits-2 Inv-loop μ-loop Inv-records μ-records
-sub-part-fits-2 c = omega arith
+number-of-requires : tie.Need-number-of-requires Inv-loop μ-loop Inv-records μ-records
+number-of-requires c κs = search needs
 
-part-part-fits-start-2 : tie.Need-part-part-fits-start-2 Inv-loop μ-loop Inv-records μ-records
-part-part-fits-start-2 c = omega arith
+mul-if2 : tie.Need-mul-if2 Inv-loop μ-loop Inv-records μ-records
+mul-if2 c =
+    let t = c .before .before .before .before .before .before .before .before .before .before .args .t .now in
+    let i = c .before .before .before .before .before .before .before .before .records .i in
+    let row = c .before .before .before .before .row-of .ensures ∙ row-is t i in
+    omega (arith, row, row-le (nth t i))
 
-part-part-fits-end-2 : tie.Need-part-part-fits-end-2 Inv-loop μ-loop Inv-records μ-records
-part-part-fits-end-2 c = omega arith
+add-if2 : tie.Need-add-if2 Inv-loop μ-loop Inv-records μ-records
+add-if2 c =
+    let t = c .before .before .before .before .before .before .before .before .before .before .args .t .now in
+    let i = c .before .before .before .before .before .before .before .before .records .i in
+    let row = c .before .before .before .before .row-of .ensures ∙ row-is t i in
+    omega (arith, row, row-le (nth t i))
 
-sub-part-fits-3 : tie.Need-sub-part-fits-3 Inv-loop μ-loop Inv-records μ-records
-sub-part-fits-3 c = omega arith
+mul-if2-2 : tie.Need-mul-if2-2 Inv-loop μ-loop Inv-records μ-records
+mul-if2-2 c =
+    let t = c .before .before .before .before .before .before .before .before .before .before .args .t .now in
+    let i = c .before .before .before .before .before .before .before .before .records .i in
+    let row = c .before .before .before .before .row-of .ensures ∙ row-is t i in
+    omega (arith, row, row-le (nth t i))
 
-part-part-fits-start-3 : tie.Need-part-part-fits-start-3 Inv-loop μ-loop Inv-records μ-records
-part-part-fits-start-3 c = omega arith
+array-read-if2 : tie.Need-array-read-if2 Inv-loop μ-loop Inv-records μ-records
+array-read-if2 c =
+    let t = c .before .before .before .before .before .before .before .before .before .before .args .t .now in
+    let i = c .before .before .before .before .before .before .before .before .records .i in
+    let row = c .before .before .before .before .row-of .ensures ∙ row-is t i in
+    omega (arith, row, row-le (nth t i))
 
-part-part-fits-end-3 : tie.Need-part-part-fits-end-3 Inv-loop μ-loop Inv-records μ-records
-part-part-fits-end-3 c = omega arith
-
-part-fits-requires : tie.Need-part-fits-requires Inv-loop μ-loop Inv-records μ-records
-unfolding lows highs
-part-fits-requires c κs =
-    let t = c .before .before .before .before .before .before .before .before .before .before .before .args .t .now in
-    let i = c .before .before .before .before .before .before .before .before .before .records .i in
-    let l = c .before .before .before .before .before .before .loop in
-    let h : i < length t / recordSize = omega arith in
-    let within : l .j + partSize ≤ recordSize = omega arith in
-    part-lengths t i (l .j) h within
+add-j : tie.Need-add-j Inv-loop μ-loop Inv-records μ-records
+add-j c = omega arith
 
 loop-less : tie.Need-loop-less Inv-loop μ-loop Inv-records μ-records
 loop-less c = omega arith
 
 loop-again : tie.Need-loop-again Inv-loop μ-loop Inv-records μ-records
-unfolding lows highs
+unfolding allBelow zeroBits
 loop-again c =
-    let t = c .before .before .before .before .before .before .before .before .before .before .before .before .before .args .t .now in
-    let i = c .before .before .before .before .before .before .before .before .before .before .before .records .i in
-    let l = c .before .before .before .before .before .before .before .before .loop in
-    let h : i < length t / recordSize = omega arith in
-    let within : l .j + partSize ≤ recordSize = omega arith in
-    let yes : partOf t i (l .j) ≡ true = sym (c .before .part-fits .ensures) ∙ not-false (c .before .part-fits .result) (c .if2 .left) in
-    (omega arith, omega arith, part-next t i (l .j) h within (l .inv .2) yes)
-
-sub-rest-fits : tie.Need-sub-rest-fits Inv-loop μ-loop Inv-records μ-records
-sub-rest-fits c = omega arith
-
-part-rest-fits-start : tie.Need-part-rest-fits-start Inv-loop μ-loop Inv-records μ-records
-part-rest-fits-start c = omega arith
-
-part-rest-fits-end : tie.Need-part-rest-fits-end Inv-loop μ-loop Inv-records μ-records
-part-rest-fits-end c = omega arith
-
-slice-aggregate-rest-fits : tie.Need-slice-aggregate-rest-fits Inv-loop μ-loop Inv-records μ-records
-slice-aggregate-rest-fits c = search needs
-
-rest-fits-requires : tie.Need-rest-fits-requires Inv-loop μ-loop Inv-records μ-records
-unfolding spareMasks
-rest-fits-requires c κs =
-    let t = c .before .before .before .before .before .before .before .before .args .t .now in
-    let i = c .before .before .before .before .before .before .records .i in
+    let t = c .before .before .before .before .before .before .before .before .before .before .before .args .t .now in
+    let i = c .before .before .before .before .before .before .before .before .before .records .i in
     let n = length t / recordSize in
-    let l = c .before .before .before .loop in
+    let l = c .before .before .before .before .loop in
     let h : i < n = omega arith in
-    let e : l .j ≡ recordSize = omega arith in
-    (length-part t i h, ap rangesFit (part-is t i) ∙ ranges-hold t i (l .j) e (l .inv .2), refl)
+    let row = c .before .before .before .before .before .row-of .result in
+    let within : l .j < 4 = omega arith in
+    let yes : partZero (nth t i) row (l .j) ≡ true = ap (λ (x : ℕ). eqb (bitAnd x (getD zeroBits (row * 4 + l .j) 0)) 0) (sym (c .before .number-of .ensures ∙ number-is t i h (l .j) within)) ∙ eq-eqb _ 0 (c .if2 .left) in
+    (omega arith, ap (allBelow (partZero (nth t i) row)) (add-one (l .j)) ∙ ap₂ (λ (x y : Bool). x && y) (l .inv .1) yes)
+
+sub-ends-with-class : tie.Need-sub-ends-with-class Inv-loop μ-loop Inv-records μ-records
+sub-ends-with-class c = omega arith
+
+part-ends-with-class-start :
+    tie.Need-part-ends-with-class-start Inv-loop μ-loop Inv-records μ-records
+part-ends-with-class-start c = omega arith
+
+part-ends-with-class-end : tie.Need-part-ends-with-class-end Inv-loop μ-loop Inv-records μ-records
+part-ends-with-class-end c = omega arith
+
+ends-with-class-requires : tie.Need-ends-with-class-requires Inv-loop μ-loop Inv-records μ-records
+ends-with-class-requires c κs = search needs
 
 add-i : tie.Need-add-i Inv-loop μ-loop Inv-records μ-records
 add-i c = omega arith
@@ -133,14 +146,16 @@ records-less c = omega arith
 
 records-again : tie.Need-records-again Inv-loop μ-loop Inv-records μ-records
 records-again c =
-    let t = c .before .before .before .before .before .before .before .before .before .before .args .t .now in
-    let i = c .before .before .before .before .before .before .before .before .records .i in
+    let t = c .before .before .before .before .before .before .before .before .before .before .before .args .t .now in
+    let i = c .before .before .before .before .before .before .before .before .before .records .i in
     let n = length t / recordSize in
-    let l = c .before .before .before .before .before .loop in
+    let l = c .before .before .before .before .loop in
     let h : i < n = omega arith in
-    let e : l .j ≡ recordSize = omega arith in
-    let rest : restFits (nth t i) ≡ true = ap restFits (sym (part-is t i)) ∙ sym (c .before .rest-fits .ensures) ∙ not-false (c .before .rest-fits .result) (c .if3 .left) in
-    (omega arith, c .before .before .before .before .before .before .before .before .records .inv .1 ∙ all-next wellFormed n i t h ∙ ap (λ (b : Bool). b && allOf wellFormed (chunks (n - (i + 1)) (drop ((i + 1) * recordSize) t))) (record-is (nth t i) true (ranges-hold t i (l .j) e (l .inv .2)) rest))
+    let e : l .j ≡ 4 = omega arith in
+    let row = c .before .before .before .before .before .row-of in
+    let test = ap (λ (r : List ℕ). not (eqb (row .result) 0) && not (isRecord r && (not (eqb (expiryIn r) 0) && not (eqb (classIn r) 0)))) (sym (part-is t i)) ∙ ap (λ (x : Bool). not (eqb (row .result) 0) && not x) (sym (c .before .ends-with-class .ensures)) ∙ c .if3 .left in
+    let yes = last-test t i h (λ k. omega (arith, c .before .before .before .before .before .before .before .before .before .before .shared-slice-known .given k)) (row .result) (l .j) false (row .ensures ∙ row-is t i) e (l .inv .1) test in
+    (omega arith, c .before .before .before .before .before .before .before .before .before .records .inv .1 ∙ all-next wellFormed n i t h ∙ ap (λ (b : Bool). b && allOf wellFormed (chunks (n - (i + 1)) (drop ((i + 1) * recordSize) t))) yes)
 
 returns : tie.Need-returns Inv-loop μ-loop Inv-records μ-records
 unfolding records
@@ -152,28 +167,32 @@ returns c =
     sym (c .before .records .inv .1 ∙ all-end wellFormed n i t e)
 
 returns-2 : tie.Need-returns-2 Inv-loop μ-loop Inv-records μ-records
-unfolding records lows highs
+unfolding records zeroBits
 returns-2 c =
-    let t = c .before .before .before .before .before .before .before .before .before .before .before .before .before .args .t .now in
-    let i = c .before .before .before .before .before .before .before .before .before .before .before .records .i in
+    let t = c .before .before .before .before .before .before .before .before .before .before .before .args .t .now in
+    let i = c .before .before .before .before .before .before .before .before .before .records .i in
     let n = length t / recordSize in
-    let l = c .before .before .before .before .before .before .before .before .loop in
+    let l = c .before .before .before .before .loop in
     let h : i < n = omega arith in
-    let within : l .j + partSize ≤ recordSize = omega arith in
-    let no : partOf t i (l .j) ≡ false = sym (c .before .part-fits .ensures) ∙ not-true (c .before .part-fits .result) (c .if2 .taken) in
-    sym (c .before .before .before .before .before .before .before .before .before .before .before .records .inv .1 ∙ all-next wellFormed n i t h ∙ ap (λ (b : Bool). b && allOf wellFormed (chunks (n - (i + 1)) (drop ((i + 1) * recordSize) t))) (part-unfit t i (l .j) h within no))
+    let row = c .before .before .before .before .before .row-of in
+    let within : l .j < 4 = omega arith in
+    let no : partZero (nth t i) (row .result) (l .j) ≡ false = ap (λ (x : ℕ). eqb (bitAnd x (getD zeroBits (row .result * 4 + l .j) 0)) 0) (sym (c .before .number-of .ensures ∙ number-is t i h (l .j) within)) ∙ ne-eqb _ 0 (c .if2 .taken) in
+    let unfit = part-unfit t i h (λ k. omega (arith, c .before .before .before .before .before .before .before .before .before .before .shared-slice-known .given k)) (row .result) (l .j) (row .ensures ∙ row-is t i) within no in
+    sym (c .before .before .before .before .before .before .before .before .before .records .inv .1 ∙ all-next wellFormed n i t h ∙ ap (λ (b : Bool). b && allOf wellFormed (chunks (n - (i + 1)) (drop ((i + 1) * recordSize) t))) unfit)
 
 returns-3 : tie.Need-returns-3 Inv-loop μ-loop Inv-records μ-records
 unfolding records
 returns-3 c =
-    let t = c .before .before .before .before .before .before .before .before .before .before .args .t .now in
-    let i = c .before .before .before .before .before .before .before .before .records .i in
+    let t = c .before .before .before .before .before .before .before .before .before .before .before .args .t .now in
+    let i = c .before .before .before .before .before .before .before .before .before .records .i in
     let n = length t / recordSize in
-    let l = c .before .before .before .before .before .loop in
+    let l = c .before .before .before .before .loop in
     let h : i < n = omega arith in
-    let e : l .j ≡ recordSize = omega arith in
-    let rest : restFits (nth t i) ≡ false = ap restFits (sym (part-is t i)) ∙ sym (c .before .rest-fits .ensures) ∙ not-true (c .before .rest-fits .result) (c .if3 .taken) in
-    sym (c .before .before .before .before .before .before .before .before .records .inv .1 ∙ all-next wellFormed n i t h ∙ ap (λ (b : Bool). b && allOf wellFormed (chunks (n - (i + 1)) (drop ((i + 1) * recordSize) t))) (record-is (nth t i) false (ranges-hold t i (l .j) e (l .inv .2)) rest))
+    let e : l .j ≡ 4 = omega arith in
+    let row = c .before .before .before .before .before .row-of in
+    let test = ap (λ (r : List ℕ). not (eqb (row .result) 0) && not (isRecord r && (not (eqb (expiryIn r) 0) && not (eqb (classIn r) 0)))) (sym (part-is t i)) ∙ ap (λ (x : Bool). not (eqb (row .result) 0) && not x) (sym (c .before .ends-with-class .ensures)) ∙ c .if3 .taken in
+    let unfit = last-test t i h (λ k. omega (arith, c .before .before .before .before .before .before .before .before .before .before .shared-slice-known .given k)) (row .result) (l .j) true (row .ensures ∙ row-is t i) e (l .inv .1) test in
+    sym (c .before .before .before .before .before .before .before .before .before .records .inv .1 ∙ all-next wellFormed n i t h ∙ ap (λ (b : Bool). b && allOf wellFormed (chunks (n - (i + 1)) (drop ((i + 1) * recordSize) t))) unfit)
 
 pub records-fit-spec : {M : Type 1} → statement M
 records-fit-spec =
@@ -186,28 +205,29 @@ records-fit-spec =
     records-holds
     mul-a
     add-e
-    shared-slice-read-used
+    shared-slice-read-row-of
+    add-row-of
+    shared-slice-read-row-of-2
+    row-of-requires
     loop-holds
-    add-k
+    mul-from
     add-from
     add-to
-    sub-part-fits
-    part-part-fits-start
-    part-part-fits-end
-    sub-part-fits-2
-    part-part-fits-start-2
-    part-part-fits-end-2
-    sub-part-fits-3
-    part-part-fits-start-3
-    part-part-fits-end-3
-    part-fits-requires
+    sub-number-of
+    part-number-of-start
+    part-number-of-end
+    number-of-requires
+    mul-if2
+    add-if2
+    mul-if2-2
+    array-read-if2
+    add-j
     loop-less
     loop-again
-    sub-rest-fits
-    part-rest-fits-start
-    part-rest-fits-end
-    slice-aggregate-rest-fits
-    rest-fits-requires
+    sub-ends-with-class
+    part-ends-with-class-start
+    part-ends-with-class-end
+    ends-with-class-requires
     add-i
     records-less
     records-again

@@ -1,0 +1,80 @@
+-- No record passed is free.
+use Prim.Native.Nat.{ℕ, _+_, _-_, _*_, _/_, _≤_, _<_}
+use mathlib.Core.Path.{_≡_, ap, _∙_}
+use native.Mathlib.Omega.{arith}
+use mathlib.Core.Bool.{true, false}
+use lib.ListN.{length, drop}
+use lib.Dec.{eqb}
+use borrow.Author.Tests.{eq-eqb, ne-eqb}
+use Rattle.record.specs.Layout.{recordSize, isFree}
+use Rattle.table.specs.Records.{chunks, records, firstOf, lowestFree}
+use Rattle.table.proofs.Passes.{nth, first-byte, rest-whole, first-here, first-later, first-end}
+use Rattle.table.proofs.search.find_free.Statement.{statement}
+use Rattle.table.proofs.search.find_free.Tie as tie
+
+abbrev Inv-loop : tie.InvT-loop
+Inv-loop t n i₀ i = (i ≤ n) × (firstOf isFree (chunks n t) ≡ i + firstOf isFree (chunks (n - i) (drop (i * recordSize) t)))
+
+abbrev μ-loop : tie.MeasureT-loop
+μ-loop t n i₀ i = n - i
+
+loop-holds : tie.Need-loop-holds Inv-loop μ-loop
+loop-holds c =
+    let t = c .args .t .now in
+    let whole = ap (firstOf isFree) (rest-whole (length t / recordSize) t) in
+    (omega arith, omega (arith, whole))
+
+mul-a : tie.Need-mul-a Inv-loop μ-loop
+mul-a c = omega arith
+
+shared-slice-read-if2 : tie.Need-shared-slice-read-if2 Inv-loop μ-loop
+shared-slice-read-if2 c = omega arith
+
+add-i : tie.Need-add-i Inv-loop μ-loop
+add-i c = omega arith
+
+loop-less : tie.Need-loop-less Inv-loop μ-loop
+loop-less c = omega arith
+
+loop-again : tie.Need-loop-again Inv-loop μ-loop
+loop-again c =
+    let t = c .before .before .before .before .args .t .now in
+    let l = c .before .before .before .loop in
+    let n = length t / recordSize in
+    let h : l .i < n = omega arith in
+    let no : isFree (nth t (l .i)) ≡ false = ap (λ (b : ℕ). eqb b 0) (first-byte t (l .i)) ∙ ne-eqb _ 0 (c .if2 .left) in
+    (omega arith, omega (arith, l .inv .1, first-later isFree n (l .i) t h no))
+
+returns : tie.Need-returns Inv-loop μ-loop
+unfolding lowestFree records
+returns c =
+    let t = c .before .before .args .t .now in
+    let l = c .before .loop in
+    let n = length t / recordSize in
+    let e : l .i ≡ n = omega arith in
+    omega (arith, l .inv .1, first-end isFree n (l .i) t e)
+
+returns-2 : tie.Need-returns-2 Inv-loop μ-loop
+unfolding lowestFree records
+returns-2 c =
+    let t = c .before .before .before .before .args .t .now in
+    let l = c .before .before .before .loop in
+    let n = length t / recordSize in
+    let h : l .i < n = omega arith in
+    let yes : isFree (nth t (l .i)) ≡ true = ap (λ (b : ℕ). eqb b 0) (first-byte t (l .i)) ∙ eq-eqb _ 0 (c .if2 .taken) in
+    omega (arith, l .inv .1, first-here isFree n (l .i) t h yes)
+
+pub find-free-spec : {M : Type 1} → statement M
+find-free-spec =
+    tie.close
+    (tie.spec
+    Inv-loop
+    μ-loop
+    loop-holds
+    mul-a
+    shared-slice-read-if2
+    add-i
+    loop-less
+    loop-again
+    returns
+    returns-2)
