@@ -15,20 +15,10 @@ use Rattle.bits.proofs.Choice.{and-left, and-right, chosen, passed-over}
 use Rattle.content.specs.Packing.{groupBits}
 use Rattle.record.specs.Layout.{recordSize, byteAt, isFree, groupsIn, expiryIn, contentIn, classIn, little}
 use Rattle.record.specs.WellFormed.{lows, highs, inRange, byteFits, allBelow, rangesFit, contentBits, spareIn, restFits, wellFormed}
+use Rattle.record.specs.Zeros.{spares, ones, front, middle, back, rowZeros, zeroBits}
 use Rattle.record.proofs.Ranges.{allBelow-add, allBelow-same}
 use Rattle.record.proofs.Parts.{cut, cut-is, cut-lt, eight-tests}
-use Rattle.record.proofs.Zeros.{same, same-is, Bytes, clear, clear-is, clear-append, spares, spare-clear, limit}
-
--- the masks of the code: a row for a free record, and for one to five groups
-unfoldable pub zeroBits : List ℕ
-zeroBits =
-    0xFFFF_FFFF_FFFF_FFFF ∷ 0xFFFF_FFFF_FFFF_FFFF ∷ 0xFFFF_FFFF_FFFF_FFFF ∷ 0xFFFF_FFFF_FFFF_FFFF
-    ∷ 0xF800_0000_C0C0_F8FE ∷ 0xF8FE_F8FE ∷ 0xFFFF_FFFF_FFFF_FFFF ∷ 0xF0C0_FFFF_FFFF_FFFF
-    ∷ 0xF800_0000_C0C0_F8FE ∷ 0xF8FE_F8FE ∷ 0xFFFF_FFFF_0F00_0000 ∷ 0xF0C0_FFFF_FFFF_FFFF
-    ∷ 0xF800_0000_C0C0_F8FE ∷ 0xF8FE_F8FE ∷ 0xFF00_0000_0000_0000 ∷ 0xF0C0_FFFF_FFFF_FFFF
-    ∷ 0xF800_0000_C0C0_F8FE ∷ 0xF8FE_F8FE ∷ 0 ∷ 0xF0C0_FFFF_FF0F_0000
-    ∷ 0xF800_0000_C0C0_F8FE ∷ 0xF8FE_F8FE ∷ 0 ∷ 0xF0C0_0000_0000_0000
-    ∷ []
+use Rattle.record.proofs.Zeros.{same, same-is, Bytes, clear, clear-is, clear-append, spare-clear, limit}
 
 -- the row of a record
 abbrev pub rowOf : List ℕ → ℕ
@@ -38,19 +28,7 @@ rowOf r = cond (eqb (byteAt r 0) 0 || ltb 5 (groupsIn r)) 0 (groupsIn r)
 abbrev pub partZero : List ℕ → ℕ → ℕ → Bool
 partZero r row j = eqb (bitAnd (little (take 8 (drop (j * 8) r))) (getD zeroBits (row * 4 + j) 0)) 0
 
--- the masks byte by byte: of a free record, of the first two parts of a used one, and of the rest after u content bits
-ones : List ℕ
-ones = replicate 8 255
-
-front : List ℕ
-front = 0xFE ∷ 0xF8 ∷ 0xC0 ∷ 0xC0 ∷ 0 ∷ 0 ∷ 0 ∷ 0xF8 ∷ []
-
-middle : List ℕ
-middle = 0xFE ∷ 0xF8 ∷ 0xFE ∷ 0xF8 ∷ 0 ∷ 0 ∷ 0 ∷ 0 ∷ []
-
-back : ℕ → List ℕ
-back u = spares (u - 8 - 8 - 8 - 8 - 8 - 8 - 8 - 8) 6 ++ (0xC0 ∷ 0xF0 ∷ [])
-
+-- every number is a byte
 allBytes : List ℕ → Bool
 allBytes [] = true
 allBytes (m ∷ ms) = ltb m 256 && allBytes ms
@@ -119,7 +97,7 @@ record Row (g : ℕ) : Type 0 where
   back-bytes : allBytes (back (groupBits * (g - 1))) ≡ true
 
 rows : (g : ℕ) → 1 ≤ g → g ≤ 5 → Row g
-unfolding zeroBits little front middle spares back allBytes
+unfolding zeroBits rowZeros little front middle spares back allBytes
 rows zero h k = absurd (omega arith)
 rows (suc zero) h k = record { front-is = refl; middle-is = refl; third-is = refl; back-is = refl; third-bytes = refl; back-bytes = refl }
 rows (suc (suc zero)) h k = record { front-is = refl; middle-is = refl; third-is = refl; back-is = refl; third-bytes = refl; back-bytes = refl }

@@ -13,6 +13,7 @@ use Rattle.bits.specs.Fields.{flat}
 use Rattle.bits.proofs.Value.{length-bits, val-bits, drop-bits, allZero-append, allZero-val}
 use Rattle.record.specs.Layout.{little}
 use Rattle.record.specs.WellFormed.{allBelow}
+use Rattle.record.specs.Zeros.{spares}
 use Rattle.record.proofs.Ranges.{allBelow-at}
 
 -- the bits of each mask are zero in its byte
@@ -51,11 +52,6 @@ clear-append (m ∷ ms) ns [] ys e = absurd (omega arith)
 clear-append (m ∷ ms) ns (x ∷ xs) ys e =
     let f : length ms ≡ length xs = omega arith in
     ap (λ (b : Bool). eqb (bitAnd x m) 0 && b) (clear-append ms ns xs ys f) ∙ sym (and-assoc (eqb (bitAnd x m) 0) (clear ms xs) (clear ns ys))
-
--- the masks of the bits after the first u
-unfoldable pub spares : (u n : ℕ) → List ℕ
-spares u zero = []
-spares u (suc n) = (2 ^ (8 - u) - 1) ∷ spares (u - 8) n
 
 drop-append : (n : ℕ) (a b : List Bool) → drop n (a ++ b) ≡ drop n a ++ drop (n - length a) b
 drop-append zero a b = let z : 0 ≡ 0 - length a = omega arith in ap (λ (k : ℕ). a ++ drop k b) z

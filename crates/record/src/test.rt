@@ -4,9 +4,49 @@ ghost use mathlib.Core.Bool.{cond, not, _&&_, _||_};
 ghost use lib.ListN.{length};
 ghost use lib.Dec.{eqb, ltb};
 ghost use Rattle.record.specs.Layout.{isRecord, little, expiryIn, classIn};
+ghost use Rattle.record.specs.Zeros.{zeroBits};
 use crate::Record;
 use crate::freeing::expiry;
 use crate::freeing::four;
+
+impl Record {
+    // A record is looked at in four parts of eight bytes.
+    pub const PART: usize = 8;
+
+    pub const PARTS: usize = 4;
+}
+
+// The bits that are zero in each part, its first byte lowest: a row for free records, and one for each number of groups.
+pub fn zero_bits() -> [u64; 24]
+    ensures { λ r. ⌜ r ≡ zeroBits ⌝ }
+{
+    [
+        0xFFFF_FFFF_FFFF_FFFF,
+        0xFFFF_FFFF_FFFF_FFFF,
+        0xFFFF_FFFF_FFFF_FFFF,
+        0xFFFF_FFFF_FFFF_FFFF,
+        0xF800_0000_C0C0_F8FE,
+        0x0000_0000_F8FE_F8FE,
+        0xFFFF_FFFF_FFFF_FFFF,
+        0xF0C0_FFFF_FFFF_FFFF,
+        0xF800_0000_C0C0_F8FE,
+        0x0000_0000_F8FE_F8FE,
+        0xFFFF_FFFF_0F00_0000,
+        0xF0C0_FFFF_FFFF_FFFF,
+        0xF800_0000_C0C0_F8FE,
+        0x0000_0000_F8FE_F8FE,
+        0xFF00_0000_0000_0000,
+        0xF0C0_FFFF_FFFF_FFFF,
+        0xF800_0000_C0C0_F8FE,
+        0x0000_0000_F8FE_F8FE,
+        0,
+        0xF0C0_FFFF_FF0F_0000,
+        0xF800_0000_C0C0_F8FE,
+        0x0000_0000_F8FE_F8FE,
+        0,
+        0xF0C0_0000_0000_0000,
+    ]
+}
 
 // The row of zero bits for a record that begins with these two bytes: its groups, or 0 if it is free or has more than five.
 pub fn row_of(mark: u8, groups: u8) -> usize
@@ -23,7 +63,7 @@ pub fn row_of(mark: u8, groups: u8) -> usize
 pub fn number_of(part: &[u8]) -> u64
     ensures { λ n. ⌜ n ≡ cond (eqb (length (now (part .entry))) 8) (little (now (part .entry))) 0 ⌝ }
 {
-    if part.len() != 8 {
+    if part.len() != Record::PART {
         return 0;
     }
     four(part, 0) as u64 + 0x1_0000_0000 * four(part, 4) as u64

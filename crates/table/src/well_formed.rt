@@ -11,41 +11,7 @@ use record::Record;
 use record::test::ends_with_class;
 use record::test::number_of;
 use record::test::row_of;
-
-impl Table {
-    // A record is tested in four parts of eight bytes.
-    const PART: usize = 8;
-
-    const PARTS: usize = 4;
-
-    // The bits that are zero in each part, its first byte lowest: a row for free records, and one for each number of groups.
-    const ZEROS: [u64; 24] = [
-        0xFFFF_FFFF_FFFF_FFFF,
-        0xFFFF_FFFF_FFFF_FFFF,
-        0xFFFF_FFFF_FFFF_FFFF,
-        0xFFFF_FFFF_FFFF_FFFF,
-        0xF800_0000_C0C0_F8FE,
-        0x0000_0000_F8FE_F8FE,
-        0xFFFF_FFFF_FFFF_FFFF,
-        0xF0C0_FFFF_FFFF_FFFF,
-        0xF800_0000_C0C0_F8FE,
-        0x0000_0000_F8FE_F8FE,
-        0xFFFF_FFFF_0F00_0000,
-        0xF0C0_FFFF_FFFF_FFFF,
-        0xF800_0000_C0C0_F8FE,
-        0x0000_0000_F8FE_F8FE,
-        0xFF00_0000_0000_0000,
-        0xF0C0_FFFF_FFFF_FFFF,
-        0xF800_0000_C0C0_F8FE,
-        0x0000_0000_F8FE_F8FE,
-        0,
-        0xF0C0_FFFF_FF0F_0000,
-        0xF800_0000_C0C0_F8FE,
-        0x0000_0000_F8FE_F8FE,
-        0,
-        0xF0C0_0000_0000_0000,
-    ];
-}
+use record::test::zero_bits;
 
 // Whether the bytes are 1 to 1,024 well-formed records.
 pub(crate) fn table_fits(t: &[u8]) -> bool
@@ -61,14 +27,13 @@ pub(crate) fn table_fits(t: &[u8]) -> bool
     }
 }
 
-// Whether every record is well-formed: the bits of its row of masks are zero in each part, and a used one has an expiry and a class. The
-// masks are read into a local once: a constant named inside the loop would be built again at each use.
+// Whether every record is well-formed: the bits of its row of masks are zero in each part, and a used one has an expiry and a class.
 fn records_fit(t: &[u8]) -> bool
     requires { ⌜ length (now t) % recordSize ≡ 0 ⌝ }
     ensures { λ b. ⌜ b ≡ allOf wellFormed (records (now (t .entry))) ⌝ }
 {
     let n = t.len() / Record::SIZE;
-    let zeros = Table::ZEROS;
+    let zeros = zero_bits();
     let mut i = 0;
     'records: loop {
         if i == n {
@@ -78,11 +43,11 @@ fn records_fit(t: &[u8]) -> bool
         let e = a + Record::SIZE;
         let row = row_of(t[a], t[a + 1]);
         let mut j = 0;
-        while j < Table::PARTS {
-            let from = a + j * Table::PART;
-            let to = from + Table::PART;
+        while j < Record::PARTS {
+            let from = a + j * Record::PART;
+            let to = from + Record::PART;
             let part = number_of(&t[from..to]);
-            if part & zeros[row * Table::PARTS + j] != 0 {
+            if part & zeros[row * Record::PARTS + j] != 0 {
                 break 'records false;
             }
             j += 1;

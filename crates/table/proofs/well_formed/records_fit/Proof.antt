@@ -11,7 +11,8 @@ use lib.Bits.{bitAnd}
 use borrow.Author.Tests.{eq-eqb, ne-eqb}
 use Rattle.record.specs.Layout.{recordSize, isRecord, expiryIn, classIn}
 use Rattle.record.specs.WellFormed.{allBelow, wellFormed}
-use Rattle.record.proofs.Tested.{zeroBits, partZero}
+use Rattle.record.specs.Zeros.{zeroBits}
+use Rattle.record.proofs.Tested.{partZero}
 use Rattle.table.specs.Records.{chunks, records, allOf}
 use Rattle.table.proofs.Bytes.{row-is, row-le, number-is, part-unfit, last-test}
 use Rattle.table.proofs.Passes.{nth, part-is, rest-whole, all-next, all-end}
@@ -31,8 +32,11 @@ Inv-records t n zeros i₀ i = (i ≤ n) × (allOf wellFormed (chunks n t) ≡ a
 abbrev μ-records : tie.MeasureT-records
 μ-records t n zeros i₀ i = n - i
 
+zero-bits-requires : tie.Need-zero-bits-requires Inv-loop μ-loop Inv-records μ-records
+zero-bits-requires c κs = search needs
+
 records-holds : tie.Need-records-holds Inv-loop μ-loop Inv-records μ-records
-records-holds c = (omega arith, sym (ap (allOf wellFormed) (rest-whole (length (c .before .args .t .now) / recordSize) (c .before .args .t .now))))
+records-holds c = let t = c .before .before .args .t .now in (omega arith, sym (ap (allOf wellFormed) (rest-whole (length t / recordSize) t)))
 
 mul-a : tie.Need-mul-a Inv-loop μ-loop Inv-records μ-records
 mul-a c = omega arith
@@ -80,28 +84,28 @@ number-of-requires c κs = search needs
 
 mul-if2 : tie.Need-mul-if2 Inv-loop μ-loop Inv-records μ-records
 mul-if2 c =
-    let t = c .before .before .before .before .before .before .before .before .before .before .args .t .now in
+    let t = c .before .before .before .before .before .before .before .before .before .before .before .args .t .now in
     let i = c .before .before .before .before .before .before .before .before .records .i in
     let row = c .before .before .before .before .row-of .ensures ∙ row-is t i in
     omega (arith, row, row-le (nth t i))
 
 add-if2 : tie.Need-add-if2 Inv-loop μ-loop Inv-records μ-records
 add-if2 c =
-    let t = c .before .before .before .before .before .before .before .before .before .before .args .t .now in
+    let t = c .before .before .before .before .before .before .before .before .before .before .before .args .t .now in
     let i = c .before .before .before .before .before .before .before .before .records .i in
     let row = c .before .before .before .before .row-of .ensures ∙ row-is t i in
     omega (arith, row, row-le (nth t i))
 
 mul-if2-2 : tie.Need-mul-if2-2 Inv-loop μ-loop Inv-records μ-records
 mul-if2-2 c =
-    let t = c .before .before .before .before .before .before .before .before .before .before .args .t .now in
+    let t = c .before .before .before .before .before .before .before .before .before .before .before .args .t .now in
     let i = c .before .before .before .before .before .before .before .before .records .i in
     let row = c .before .before .before .before .row-of .ensures ∙ row-is t i in
     omega (arith, row, row-le (nth t i))
 
 array-read-if2 : tie.Need-array-read-if2 Inv-loop μ-loop Inv-records μ-records
 array-read-if2 c =
-    let t = c .before .before .before .before .before .before .before .before .before .before .args .t .now in
+    let t = c .before .before .before .before .before .before .before .before .before .before .before .args .t .now in
     let i = c .before .before .before .before .before .before .before .before .records .i in
     let row = c .before .before .before .before .row-of .ensures ∙ row-is t i in
     omega (arith, row, row-le (nth t i))
@@ -115,14 +119,14 @@ loop-less c = omega arith
 loop-again : tie.Need-loop-again Inv-loop μ-loop Inv-records μ-records
 unfolding allBelow zeroBits
 loop-again c =
-    let t = c .before .before .before .before .before .before .before .before .before .before .before .args .t .now in
+    let t = c .before .before .before .before .before .before .before .before .before .before .before .before .args .t .now in
     let i = c .before .before .before .before .before .before .before .before .before .records .i in
     let n = length t / recordSize in
     let l = c .before .before .before .before .loop in
     let h : i < n = omega arith in
     let row = c .before .before .before .before .before .row-of .result in
     let within : l .j < 4 = omega arith in
-    let yes : partZero (nth t i) row (l .j) ≡ true = ap (λ (x : ℕ). eqb (bitAnd x (getD zeroBits (row * 4 + l .j) 0)) 0) (sym (c .before .number-of .ensures ∙ number-is t i h (l .j) within)) ∙ eq-eqb _ 0 (c .if2 .left) in
+    let yes : partZero (nth t i) row (l .j) ≡ true = ap (λ (x : ℕ). eqb (bitAnd x (getD zeroBits (row * 4 + l .j) 0)) 0) (sym (c .before .number-of .ensures ∙ number-is t i h (l .j) within)) ∙ ap (λ (zs : List ℕ). eqb (bitAnd (c .before .number-of .result) (getD zs (row * 4 + l .j) 0)) 0) (sym (c .before .before .before .before .before .before .before .before .before .before .zero-bits .ensures)) ∙ eq-eqb _ 0 (c .if2 .left) in
     (omega arith, ap (allBelow (partZero (nth t i) row)) (add-one (l .j)) ∙ ap₂ (λ (x y : Bool). x && y) (l .inv .1) yes)
 
 sub-ends-with-class : tie.Need-sub-ends-with-class Inv-loop μ-loop Inv-records μ-records
@@ -146,7 +150,7 @@ records-less c = omega arith
 
 records-again : tie.Need-records-again Inv-loop μ-loop Inv-records μ-records
 records-again c =
-    let t = c .before .before .before .before .before .before .before .before .before .before .before .args .t .now in
+    let t = c .before .before .before .before .before .before .before .before .before .before .before .before .args .t .now in
     let i = c .before .before .before .before .before .before .before .before .before .records .i in
     let n = length t / recordSize in
     let l = c .before .before .before .before .loop in
@@ -154,13 +158,13 @@ records-again c =
     let e : l .j ≡ 4 = omega arith in
     let row = c .before .before .before .before .before .row-of in
     let test = ap (λ (r : List ℕ). not (eqb (row .result) 0) && not (isRecord r && (not (eqb (expiryIn r) 0) && not (eqb (classIn r) 0)))) (sym (part-is t i)) ∙ ap (λ (x : Bool). not (eqb (row .result) 0) && not x) (sym (c .before .ends-with-class .ensures)) ∙ c .if3 .left in
-    let yes = last-test t i h (λ k. omega (arith, c .before .before .before .before .before .before .before .before .before .before .shared-slice-known .given k)) (row .result) (l .j) false (row .ensures ∙ row-is t i) e (l .inv .1) test in
+    let yes = last-test t i h (λ k. omega (arith, c .before .before .before .before .before .before .before .before .before .before .before .shared-slice-known .given k)) (row .result) (l .j) false (row .ensures ∙ row-is t i) e (l .inv .1) test in
     (omega arith, c .before .before .before .before .before .before .before .before .before .records .inv .1 ∙ all-next wellFormed n i t h ∙ ap (λ (b : Bool). b && allOf wellFormed (chunks (n - (i + 1)) (drop ((i + 1) * recordSize) t))) yes)
 
 returns : tie.Need-returns Inv-loop μ-loop Inv-records μ-records
 unfolding records
 returns c =
-    let t = c .before .before .before .args .t .now in
+    let t = c .before .before .before .before .args .t .now in
     let i = c .before .records .i in
     let n = length t / recordSize in
     let e : i ≡ n = omega arith in
@@ -169,21 +173,21 @@ returns c =
 returns-2 : tie.Need-returns-2 Inv-loop μ-loop Inv-records μ-records
 unfolding records zeroBits
 returns-2 c =
-    let t = c .before .before .before .before .before .before .before .before .before .before .before .args .t .now in
+    let t = c .before .before .before .before .before .before .before .before .before .before .before .before .args .t .now in
     let i = c .before .before .before .before .before .before .before .before .before .records .i in
     let n = length t / recordSize in
     let l = c .before .before .before .before .loop in
     let h : i < n = omega arith in
     let row = c .before .before .before .before .before .row-of in
     let within : l .j < 4 = omega arith in
-    let no : partZero (nth t i) (row .result) (l .j) ≡ false = ap (λ (x : ℕ). eqb (bitAnd x (getD zeroBits (row .result * 4 + l .j) 0)) 0) (sym (c .before .number-of .ensures ∙ number-is t i h (l .j) within)) ∙ ne-eqb _ 0 (c .if2 .taken) in
-    let unfit = part-unfit t i h (λ k. omega (arith, c .before .before .before .before .before .before .before .before .before .before .shared-slice-known .given k)) (row .result) (l .j) (row .ensures ∙ row-is t i) within no in
+    let no : partZero (nth t i) (row .result) (l .j) ≡ false = ap (λ (x : ℕ). eqb (bitAnd x (getD zeroBits (row .result * 4 + l .j) 0)) 0) (sym (c .before .number-of .ensures ∙ number-is t i h (l .j) within)) ∙ ap (λ (zs : List ℕ). eqb (bitAnd (c .before .number-of .result) (getD zs (row .result * 4 + l .j) 0)) 0) (sym (c .before .before .before .before .before .before .before .before .before .before .zero-bits .ensures)) ∙ ne-eqb _ 0 (c .if2 .taken) in
+    let unfit = part-unfit t i h (λ k. omega (arith, c .before .before .before .before .before .before .before .before .before .before .before .shared-slice-known .given k)) (row .result) (l .j) (row .ensures ∙ row-is t i) within no in
     sym (c .before .before .before .before .before .before .before .before .before .records .inv .1 ∙ all-next wellFormed n i t h ∙ ap (λ (b : Bool). b && allOf wellFormed (chunks (n - (i + 1)) (drop ((i + 1) * recordSize) t))) unfit)
 
 returns-3 : tie.Need-returns-3 Inv-loop μ-loop Inv-records μ-records
 unfolding records
 returns-3 c =
-    let t = c .before .before .before .before .before .before .before .before .before .before .before .args .t .now in
+    let t = c .before .before .before .before .before .before .before .before .before .before .before .before .args .t .now in
     let i = c .before .before .before .before .before .before .before .before .before .records .i in
     let n = length t / recordSize in
     let l = c .before .before .before .before .loop in
@@ -191,7 +195,7 @@ returns-3 c =
     let e : l .j ≡ 4 = omega arith in
     let row = c .before .before .before .before .before .row-of in
     let test = ap (λ (r : List ℕ). not (eqb (row .result) 0) && not (isRecord r && (not (eqb (expiryIn r) 0) && not (eqb (classIn r) 0)))) (sym (part-is t i)) ∙ ap (λ (x : Bool). not (eqb (row .result) 0) && not x) (sym (c .before .ends-with-class .ensures)) ∙ c .if3 .taken in
-    let unfit = last-test t i h (λ k. omega (arith, c .before .before .before .before .before .before .before .before .before .before .shared-slice-known .given k)) (row .result) (l .j) true (row .ensures ∙ row-is t i) e (l .inv .1) test in
+    let unfit = last-test t i h (λ k. omega (arith, c .before .before .before .before .before .before .before .before .before .before .before .shared-slice-known .given k)) (row .result) (l .j) true (row .ensures ∙ row-is t i) e (l .inv .1) test in
     sym (c .before .before .before .before .before .before .before .before .before .records .inv .1 ∙ all-next wellFormed n i t h ∙ ap (λ (b : Bool). b && allOf wellFormed (chunks (n - (i + 1)) (drop ((i + 1) * recordSize) t))) unfit)
 
 pub records-fit-spec : {M : Type 1} → statement M
@@ -202,6 +206,7 @@ records-fit-spec =
     μ-loop
     Inv-records
     μ-records
+    zero-bits-requires
     records-holds
     mul-a
     add-e
