@@ -6,7 +6,7 @@ use mathlib.Core.List.{List}
 use lib.IntN.{ℤ}
 use Rattle.bits.proofs.Choice.{chosen}
 use Rattle.drm.specs.declared.Unit.{Unit}
-use Rattle.drm.specs.Write.{fieldsFit, unitFits, canWrite}
+use Rattle.drm_write.specs.Write.{fieldsFit, unitFits, canWrite}
 use Rattle.cells.specs.Ranges.{below}
 use Rattle.capi.specs.Units.{unitCells, unitLimits, unitIn, unfitUnit, unitFrom}
 

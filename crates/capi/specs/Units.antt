@@ -9,10 +9,11 @@ use Rattle.bits.specs.Fields.{flat}
 use Rattle.drm.specs.declared.Unit.{Unit}
 use Rattle.drm.specs.declared.Reading.{Reading}
 use Rattle.drm.specs.declared.Reading.the-variants as reading
-use Rattle.drm.specs.declared.Writing.{Writing}
-use Rattle.drm.specs.declared.Writing.the-variants as writing
-use Rattle.drm.specs.Write.{writeUnit, bytesAfter as bytesIn}
-use Rattle.drm.specs.Read.{payload, readUnit, wordsAfter as wordsIn}
+use Rattle.drm_write.specs.declared.Writing.{Writing}
+use Rattle.drm_write.specs.declared.Writing.the-variants as writing
+use Rattle.drm_write.specs.Write.{writeUnit, bytesAfter as bytesIn}
+use Rattle.drm.specs.Check.{payload}
+use Rattle.drm.specs.Read.{readUnit, wordsAfter as wordsIn}
 use Rattle.cells.specs.Written.{written}
 use Rattle.cells.specs.Ranges.{below}
 

@@ -12,7 +12,7 @@ use cells::array::in_ranges;
 use cells::array::put;
 use drm::Reading;
 use drm::Unit;
-use drm::Writing;
+use drm_write::Writing;
 
 const CELLS: usize = 9;
 
@@ -86,7 +86,7 @@ pub extern "C" fn alertc_drm_write(
     if unit.len() < CELLS {
         return 15;
     }
-    let writing = unit_from(unit, lto).write(words, out);
+    let writing = drm_write::write(unit_from(unit, lto), words, out);
     match writing {
         Writing::Written(n) => {
             *count = n;

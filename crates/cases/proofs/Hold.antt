@@ -8,7 +8,7 @@ use Rattle.fig.specs.Format.{wordWidth}
 use Rattle.fig.specs.Write.{figBytes}
 use Rattle.system.specs.Read.{systemOf, systemBy}
 use Rattle.crc.specs.Register.{shifted, entered, checkWord}
-use Rattle.drm.specs.Offset.{ltoOf}
+use Rattle.lto.specs.Offset.{ltoOf}
 use Rattle.drm.specs.Payload.{uaFlag, aid, headerBits, wordsAt, unitOf}
 use Rattle.drm.specs.Read.{fieldRefusal, wordsRefusal, payloadRefusal, unitRefusal, taken, readUnit}
 use Rattle.clock.specs.Time.{localOf, toMidnight, expiryOf}

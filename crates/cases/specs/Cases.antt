@@ -15,7 +15,7 @@ use Rattle.system.specs.declared.Reading.the-variants as system
 use Rattle.system.specs.Read.{systemOf}
 use Rattle.drm.specs.declared.Reading.the-variants as drm
 use Rattle.drm.specs.Read.{readUnit}
-use Rattle.drm.specs.Write.{checked}
+use Rattle.drm.specs.Check.{checked}
 use Rattle.clock.specs.Time.{expiryOf}
 use Rattle.cases.specs.Case.{Case, case}
 use Rattle.cases.specs.Samples.{report101, report401, opened, bare}

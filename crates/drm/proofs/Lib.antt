@@ -1,16 +1,5 @@
-pub mod Signed
 pub mod Front
 pub mod Body
-pub mod Ranges
-pub mod Fronts
-pub mod Filling
-pub mod Written
 pub mod Units
 pub mod Whole
-pub mod Feeding
-pub mod Fed
-pub mod Continuing
-pub mod ReadBack
-pub mod WayBack
-pub mod Allowing
 pub mod Examples

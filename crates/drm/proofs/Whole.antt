@@ -15,7 +15,8 @@ use Rattle.bits.proofs.Choice.{and-left, and-right}
 use Rattle.bits.proofs.Checks.{passed, none, refused}
 use Rattle.crc.specs.Register.{checkWord}
 use Rattle.drm.specs.declared.Reading.the-variants.{Refused}
-use Rattle.drm.specs.Read.{lengthFits, checkIn, payload, payloadRefusal, unitRefusal, taken, readUnit}
+use Rattle.drm.specs.Check.{checkIn, payload}
+use Rattle.drm.specs.Read.{lengthFits, payloadRefusal, unitRefusal, taken, readUnit}
 
 -- the test of the length
 pub between : (a n b : ℕ) → leb a n && leb n b ≡ true → (a ≤ n) × (n ≤ b)

@@ -1,7 +1,4 @@
 pub mod Format
-pub mod Offset
+pub mod Check
 pub mod Payload
 pub mod Read
-pub mod Messages
-pub mod Write
-pub mod Allowed

@@ -9,7 +9,7 @@ use Rattle.bits.specs.Fields.{words, unpack}
 use Rattle.bits.specs.Overlay.{stretch}
 use Rattle.drm.specs.declared.Unit.{Unit}
 use Rattle.drm.specs.Format.{startFormat, headerFormat, alertC, wordWidth, systemWidth}
-use Rattle.drm.specs.Offset.{ltoOf}
+use Rattle.lto.specs.Offset.{ltoOf}
 
 -- TMCHI, rfu, Short ID
 abbrev pub start : List Bool → List ℕ

@@ -11,15 +11,8 @@ use Rattle.crc.specs.Register.{checkWord}
 use Rattle.drm.specs.declared.Reading.{Reading}
 use Rattle.drm.specs.declared.Reading.the-variants.{Taken, Refused}
 use Rattle.drm.specs.Format.{shortest, longest, checkLength, wordWidth, alertC}
+use Rattle.drm.specs.Check.{payload, checkIn}
 use Rattle.drm.specs.Payload.{start, aid, header, systemWords, wordsAt, countFrom, padding, unitOf}
-
--- the bytes before the check word
-abbrev pub payload : List ℕ → List ℕ
-payload s = take (length s - checkLength) s
-
--- the check word
-abbrev pub checkIn : List ℕ → ℕ
-checkIn s = val (flat 8 (drop (length s - checkLength) s))
 
 -- 8 to 128 bytes
 abbrev pub lengthFits : ℕ → Bool

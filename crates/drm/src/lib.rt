@@ -1,10 +1,8 @@
-// The data unit, which carries the Traffic Message Channel of DRM: read and written.
+// The data unit, which carries the Traffic Message Channel of DRM, and reading it.
 ghost use mathlib.Core.Path.{_≡_};
 ghost use lib.IntN.{pos};
 
-mod messages;
 mod read;
-mod write;
 
 // A data unit without its user words. The fields after Short ID are those of the header, and 0 where TMCHI is 0.
 pub struct Unit {
@@ -26,12 +24,6 @@ pub struct Unit {
 pub enum Reading {
     // The unit, and how many user words it carries.
     Taken { unit: Unit, count: usize },
-    Refused(u8),
-}
-
-pub enum Writing {
-    // How many bytes were written.
-    Written(usize),
     Refused(u8),
 }
 

@@ -6,9 +6,9 @@ ghost use lib.ListN.{length, drop, getD};
 ghost use Rattle.bits.specs.Bits.{bits, val};
 ghost use Rattle.bits.specs.Fields.{flat, unpack, words};
 ghost use Rattle.drm.specs.Format.{startFormat, headerFormat};
-ghost use Rattle.drm.specs.Offset.{ltoOf};
 ghost use Rattle.drm.specs.Payload.{start, uaFlag, aid, headerAt, header as Payload·header, headerBits, systemWords, wordsAt, unitOf};
-ghost use Rattle.drm.specs.Read.{payload, fieldRefusal, wordsRefusal, payloadRefusal, unitRefusal, taken as Read·taken, readUnit, wordsAfter};
+ghost use Rattle.drm.specs.Check.{payload};
+ghost use Rattle.drm.specs.Read.{fieldRefusal, wordsRefusal, payloadRefusal, unitRefusal, taken as Read·taken, readUnit, wordsAfter};
 use crate::Reading;
 use crate::Unit;
 use bits::bytes::load;
@@ -16,6 +16,7 @@ use bits::field::bits_at;
 use bits::run::words_at;
 use bits::zero::zeros_at;
 use crc::check_word;
+use lto::half_hours;
 
 impl Unit {
     // Reads a unit, and its user words into the first cells of a buffer. Refuses in this order: a length outside 8 to 128 (1), the
@@ -217,17 +218,5 @@ fn unit_of(start: u64, header: u64, first: u16, second: u16, third: u16) -> Unit
         first,
         second,
         third,
-    }
-}
-
-// A sign bit and five bits of half hours as a signed number.
-fn half_hours(field: u8) -> i8
-    requires { ⌜ field < 64 ⌝ }
-    ensures { λ r. ⌜ r ≡ ltoOf field ⌝ }
-{
-    if field < 32 {
-        field as i8
-    } else {
-        0 - (field % 32) as i8
     }
 }

@@ -16,6 +16,7 @@ use Rattle.fig.specs.Read as figRead
 use Rattle.drm.specs.declared.Unit.{Unit}
 use Rattle.drm.specs.declared.Reading.the-variants as drm
 use Rattle.drm.specs.Format as drmFormat
+use Rattle.drm.specs.Check.{payload}
 use Rattle.drm.specs.Payload.{wordsAt}
 use Rattle.drm.specs.Read as drmRead
 use Rattle.recording.specs.declared.Carried.the-variants as code
@@ -49,14 +50,14 @@ module _ (f : Fig) (n : ℕ) (body out : List ℕ) where
   fig-count = cells (words (figFormat.wordWidth (f .d1)) n (flat 8 (drop 2 body))) out n (length-words (figFormat.wordWidth (f .d1)) n (flat 8 (drop 2 body)))
 
 module _ (u : Unit) (n : ℕ) (body out : List ℕ) where
-  pub unit-held : held (code.Words n) (drmRead.wordsAfter (drm.Taken u n) (flat 8 (drmRead.payload body)) out) ≡ byUnit (drm.Taken u n) body
+  pub unit-held : held (code.Words n) (drmRead.wordsAfter (drm.Taken u n) (flat 8 (payload body)) out) ≡ byUnit (drm.Taken u n) body
   unfolding held byUnit drmRead.wordsAfter
   unit-held =
-      let l = drop (wordsAt (flat 8 (drmRead.payload body))) (flat 8 (drmRead.payload body)) in
+      let l = drop (wordsAt (flat 8 (payload body))) (flat 8 (payload body)) in
       ap gives (take-at (words drmFormat.wordWidth n l) (drop n out) n (length-words drmFormat.wordWidth n l))
 
-  pub unit-count : n ≤ length (drmRead.wordsAfter (drm.Taken u n) (flat 8 (drmRead.payload body)) out)
+  pub unit-count : n ≤ length (drmRead.wordsAfter (drm.Taken u n) (flat 8 (payload body)) out)
   unfolding drmRead.wordsAfter
   unit-count =
-      let l = drop (wordsAt (flat 8 (drmRead.payload body))) (flat 8 (drmRead.payload body)) in
+      let l = drop (wordsAt (flat 8 (payload body))) (flat 8 (payload body)) in
       cells (words drmFormat.wordWidth n l) out n (length-words drmFormat.wordWidth n l)

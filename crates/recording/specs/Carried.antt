@@ -16,8 +16,9 @@ use Rattle.fig.specs.Read.{readFig}
 use Rattle.drm.specs.declared.Reading as drmReading
 use Rattle.drm.specs.declared.Reading.the-variants as drm
 use Rattle.drm.specs.Format.{wordWidth}
+use Rattle.drm.specs.Check.{payload}
 use Rattle.drm.specs.Payload.{wordsAt}
-use Rattle.drm.specs.Read.{payload, readUnit}
+use Rattle.drm.specs.Read.{readUnit}
 use Rattle.recording.specs.Frame.{little}
 use Rattle.recording.specs.declared.Carried.{Carried}
 use Rattle.recording.specs.declared.Carried.the-variants as code

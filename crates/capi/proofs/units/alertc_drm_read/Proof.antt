@@ -5,7 +5,8 @@ use mir.Syntax.{w8}
 use mir.ValLaws.{toZ-ofZ}
 use Rattle.bits.specs.Fields.{flat}
 use Rattle.drm.specs.declared.Reading.{Reading}
-use Rattle.drm.specs.Read.{payload, wordsAfter as wordsIn}
+use Rattle.drm.specs.Check.{payload}
+use Rattle.drm.specs.Read.{wordsAfter as wordsIn}
 use Rattle.cells.specs.Written.{written}
 use Rattle.cells.proofs.Writing.{nothing-written}
 use Rattle.capi.specs.Units.{readingNumber, readingCells, ltoRead, countRead, readNumber, unitAfter, ltoAfter, wordsAfter, countAfter}

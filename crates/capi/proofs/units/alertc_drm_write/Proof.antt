@@ -4,8 +4,8 @@ use lib.ListN.{length}
 use mir.Syntax.{w8}
 use mir.ValLaws.{toZ-ofZ}
 use Rattle.drm.specs.declared.Unit.{Unit}
-use Rattle.drm.specs.declared.Writing.{Writing}
-use Rattle.drm.specs.Write.{writeUnit, bytesAfter as bytesIn}
+use Rattle.drm_write.specs.declared.Writing.{Writing}
+use Rattle.drm_write.specs.Write.{writeUnit, bytesAfter as bytesIn}
 use Rattle.capi.specs.Units.{writingNumber, lengthOf, unitFrom, writeNumber, bytesAfter, countWritten}
 use Rattle.capi.proofs.Ways.{size-refused, size-passed}
 use borrow.Author.Needs.{needs}

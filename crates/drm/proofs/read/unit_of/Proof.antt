@@ -6,7 +6,7 @@ use mathlib.Core.Path.{refl}
 use Rattle.bits.proofs.Formats.{unpack-bits}
 use Rattle.drm.specs.Format.{startFormat, headerFormat}
 use Rattle.drm.specs.Payload.{unitOf}
-use Rattle.drm.proofs.Signed.{lto-back}
+use Rattle.lto.proofs.Signed.{lto-back}
 use borrow.Author.Needs.{needs}
 use Rattle.drm.proofs.read.unit_of.Statement.{statement}
 use Rattle.drm.proofs.read.unit_of.Tie as tie

@@ -5,7 +5,8 @@ use mathlib.Core.Path.{_≡_, sym, ap, _∙_}
 use lib.ListN.{length}
 use Rattle.bits.specs.Fields.{flat}
 use Rattle.drm.specs.declared.Reading.{Reading}
-use Rattle.drm.specs.Read.{payload, readUnit, wordsAfter}
+use Rattle.drm.specs.Check.{payload}
+use Rattle.drm.specs.Read.{readUnit, wordsAfter}
 use Rattle.recording.specs.declared.Carried.the-variants as code
 use Rattle.recording.specs.Carried.{mostWords, byUnit, held, heldCount}
 use Rattle.recording.proofs.Carrying.{unit-held, unit-count}

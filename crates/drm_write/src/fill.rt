@@ -1,0 +1,83 @@
+// The bytes of a unit.
+ghost use mathlib.Core.Path.{_≡_};
+ghost use mathlib.Core.Bool.{true};
+ghost use Prim.Native.Nat.{_+_, _*_, _/_, _≤_};
+ghost use lib.ListN.{length};
+ghost use Rattle.bits.specs.Bits.{val};
+ghost use Rattle.bits.specs.Fields.{flat, fits as Fields·fits, words as Fields·words};
+ghost use Rattle.drm.specs.Format.{startFormat, headerFormat};
+ghost use Rattle.drm_write.specs.Write.{startValues, headerValues, places, payloadLength, unitLength, unitFits, frontBits, laid, payloadBits, unitBytes};
+use crate::fits::front_width;
+use bits::bytes::pow2;
+use bits::bytes::store;
+use bits::field::put_bits;
+use bits::run::put_words;
+use crc::check_word;
+use drm::Unit;
+use lto::lto_field;
+
+// Fills s with the unit.
+pub(crate) fn fill(s: &mut [u8], unit: Unit, words: &[u64])
+    requires { ⌜ (unitFits unit (length (now words)) ≡ true) × (length (now s) ≡ unitLength unit (length (now words))) ⌝ }
+    ensures { λ _. ⌜ now (s .exit) ≡ unitBytes unit (now (words .entry)) ⌝ }
+{
+    let end = s.len() - Unit::CHECK;
+    fill_payload(&mut s[..end], unit, words);
+    let check = check_word(&s[..end]) as u64;
+    store(&mut s[end..], check);
+}
+
+// Fills s with the unit's bytes before the check word.
+fn fill_payload(s: &mut [u8], unit: Unit, words: &[u64])
+    requires { ⌜ (unitFits unit (length (now words)) ≡ true) × (length (now s) ≡ payloadLength unit (length (now words))) ⌝ }
+    ensures { λ _. ⌜ now (s .exit) ≡ Fields·words 8 (length (now (s .entry))) (payloadBits unit (now (words .entry))) ⌝ }
+{
+    let system = unit.system as usize * 16;
+    let messages = system_number(unit) / pow2(48 - system);
+    lay(
+        s,
+        front_width(unit),
+        front_number(unit),
+        system,
+        messages,
+        words,
+    );
+}
+
+// The start and, with a header, its fields, as one number.
+fn front_number(unit: Unit) -> u64
+    requires { ⌜ (Fields·fits startFormat (startValues unit) ≡ true) × (Fields·fits headerFormat (headerValues unit) ≡ true) ⌝ }
+    ensures { λ r. ⌜ r ≡ val (frontBits unit) ⌝ }
+{
+    if unit.tmchi == 0 {
+        unit.id as u64
+    } else {
+        0x80000000
+            + unit.id as u64 * 0x4000000
+            + unit.services as u64 * 0x100000
+            + unit.country as u64 * 0x10000
+            + unit.ecc as u64 * 0x100
+            + lto_field(unit.lto) * 4
+            + unit.system as u64
+    }
+}
+
+// The places of the system words as one number.
+fn system_number(unit: Unit) -> u64
+    ensures { λ r. ⌜ r ≡ val (flat 16 (places unit)) ⌝ }
+{
+    unit.first as u64 * 0x100000000 + unit.second as u64 * 0x10000 + unit.third as u64
+}
+
+// Fills s with the low bits of two numbers, the user words, and the zeros after them.
+fn lay(s: &mut [u8], front: usize, head: u64, system: usize, messages: u64, words: &[u64])
+    requires { ⌜ (front ≤ 32) × (system ≤ 48) × (length (now s) ≤ 126) × (length (now s) ≡ (front + system + length (now words) * 37 + 7) / 8) ⌝ }
+    ensures { λ _. ⌜ now (s .exit) ≡ Fields·words 8 (length (now (s .entry))) (laid front head system messages (now (words .entry))) ⌝ }
+{
+    put_bits(s, 0, front, head);
+    put_bits(s, front, system, messages);
+    let at = front + system;
+    put_words(s, at, Unit::WIDTH, words);
+    let used = at + words.len() * Unit::WIDTH;
+    put_bits(s, used, s.len() * 8 - used, 0);
+}

@@ -1,0 +1,35 @@
+-- The sign bit is the one of 32.
+use Prim.Native.Nat.{_%_, _<_}
+use native.Mathlib.Omega.{arith}
+use mathlib.Core.Path.{sym, _∙_}
+use borrow.Author.Tests.{lt-ltb, le-ltb}
+use Rattle.bits.proofs.Choice.{chosen, passed-over}
+use Rattle.lto.specs.Offset.{ltoOf}
+use Rattle.lto.proofs.Signed.{as-signed, minus-fits, minus-of}
+use borrow.Author.Needs.{needs}
+use Rattle.lto.proofs.half_hours.Statement.{statement}
+use Rattle.lto.proofs.half_hours.Tie as tie
+
+cast-result : tie.Need-cast-result
+cast-result c = search needs
+
+cast-result-2 : tie.Need-cast-result-2
+cast-result-2 c = search needs
+
+sub-result : tie.Need-sub-result
+sub-result c = minus-fits (c .before .args .field % 32) (omega arith)
+
+returns : tie.Need-returns
+unfolding ltoOf
+returns c =
+    let small : c .before .args .field < 128 = omega (arith, c .if1 .taken) in
+    as-signed (c .before .args .field) small ∙ sym (chosen _ _ _ (lt-ltb _ _ (c .if1 .taken)))
+
+returns-2 : tie.Need-returns-2
+unfolding ltoOf
+returns-2 c =
+    let small : c .before .args .field % 32 < 128 = omega arith in
+    minus-of (c .before .args .field % 32) small ∙ sym (passed-over _ _ _ (le-ltb _ _ (c .if1 .left)))
+
+pub half-hours-spec : {M : Type 1} → statement M
+half-hours-spec = tie.close (tie.spec cast-result cast-result-2 sub-result returns returns-2)

@@ -1,0 +1,54 @@
+-- Words fed to an assembler one by one: what the code finds out of each.
+use Prim.Native.Nat.{ℕ, suc, _<_}
+use mathlib.Core.Path.{_≡_, refl, sym, ap, ap₂, _∙_}
+use mathlib.Core.Bool.{Bool, true, false, _&&_, _||_, not}
+use mathlib.Core.List.{List, [], _∷_}
+use lib.ListN.{length, getD, drop}
+use lib.Seq.{drop-cons}
+use denote.Enum.Declared.{tagOf}
+use types.Run.{OneOf, miss}
+use Rattle.word.specs.declared.Word.{Word}
+use Rattle.word.specs.declared.Word.the-variants.{Single, First, Later, Tuning, Administration, Index7, Beyond}
+use Rattle.word.specs.Kind.{kindOf}
+use Rattle.word.proofs.Word as word
+use Rattle.assembler.specs.declared.Assembler.{Assembler}
+use Rattle.assembler.specs.declared.Answer.{Answer}
+use Rattle.assembler.specs.declared.Answer.the-variants as answer
+use Rattle.assembler.specs.declared.Step.{Step}
+use Rattle.assembler.specs.Step.{stepOf}
+use Rattle.assembler.proofs.Answer as answers
+use Rattle.messages.specs.Messages.{isEmpty, isTaken, begins, passes, wholeFrom}
+
+-- an answer of another variant than a refusal's
+pub no-refusal : (a : Answer) → OneOf (0 ∷ 1 ∷ 2 ∷ 3 ∷ []) (tagOf answers.the-type a) → isTaken a ≡ true
+unfolding isTaken
+no-refusal answer.Nothing k = refl
+no-refusal answer.Report k = refl
+no-refusal (answer.Tuning n) k = refl
+no-refusal (answer.Administration n) k = refl
+no-refusal (answer.Refused n) k = absurd (miss (0 ∷ 1 ∷ 2 ∷ 3 ∷ []) 4 tt k)
+
+-- a word of another variant than a single group's and a first group's
+pub no-beginning : (w : Word) → OneOf (2 ∷ 3 ∷ 4 ∷ 5 ∷ 6 ∷ []) (tagOf word.the-type w) → begins w ≡ false
+unfolding begins
+no-beginning (Single duration diversion head) k = absurd (miss (2 ∷ 3 ∷ 4 ∷ 5 ∷ 6 ∷ []) 0 tt k)
+no-beginning (First ci head) k = absurd (miss (2 ∷ 3 ∷ 4 ∷ 5 ∷ 6 ∷ []) 1 tt k)
+no-beginning (Later ci second gsi content) k = refl
+no-beginning (Tuning n) k = refl
+no-beginning (Administration n) k = refl
+no-beginning (Index7 n) k = refl
+no-beginning (Beyond n) k = refl
+
+-- the first word decides, by what was found of the state, of the word's kind k and of the step s, and then the rest
+pub whole-next : (a : Assembler) (ws : List ℕ) (i : ℕ) (e b t v : Bool) (k : Word) (s : Step) → i < length ws
+    → e ≡ isEmpty a → k ≡ kindOf (getD ws i 0) → b ≡ begins k → s ≡ stepOf a (getD ws i 0) → t ≡ isTaken (s .answer) → (e || not b) && t ≡ v
+    → wholeFrom a (drop i ws) ≡ v && wholeFrom (s .next) (drop (suc i) ws)
+unfolding wholeFrom passes
+whole-next a ws i e b t v k s h he hk hb hs ht hv =
+    let n = getD ws i 0 in
+    let same : passes a n ≡ v =
+    sym (ap₂ (λ (x y : Bool). (x || not y) && t) he (hb ∙ ap begins hk)
+    ∙ ap (λ (x : Bool). (isEmpty a || not (begins (kindOf n))) && x) (ht ∙ ap (λ (x : Step). isTaken (x .answer)) hs))
+    ∙ hv in
+    ap (wholeFrom a) (drop-cons ws i 0 h)
+    ∙ ap₂ (λ (x : Bool) (y : Step). x && wholeFrom (y .next) (drop (suc i) ws)) same (sym hs)

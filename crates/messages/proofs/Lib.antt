@@ -1,0 +1,3 @@
+pub mod Feeding
+pub mod Fed
+pub mod Continuing
