@@ -2,15 +2,15 @@
 use Prim.Native.Nat.{ℕ, _-_, _%_}
 use mathlib.Core.Bool.{Bool, _&&_}
 use mathlib.Core.List.{List, _++_}
-use lib.ListN.{length, getD, take, drop}
+use lib.ListN.{length, getD, drop}
 use lib.Dec.{leb, eqb}
-use Rattle.bits.specs.Bits.{val, allZero}
+use Rattle.bits.specs.Bits.{allZero}
 use Rattle.bits.specs.Fields.{flat, words}
 use Rattle.bits.specs.Checks.{must, firstOf, unless}
 use Rattle.crc.specs.Register.{checkWord}
 use Rattle.drm.specs.declared.Reading.{Reading}
 use Rattle.drm.specs.declared.Reading.the-variants.{Taken, Refused}
-use Rattle.drm.specs.Format.{shortest, longest, checkLength, wordWidth, alertC}
+use Rattle.drm.specs.Format.{shortest, longest, wordWidth, alertC}
 use Rattle.drm.specs.Check.{payload, checkIn}
 use Rattle.drm.specs.Payload.{start, aid, header, systemWords, wordsAt, countFrom, padding, unitOf}
 

@@ -3,11 +3,11 @@ ghost use mathlib.Core.Path.{_≡_};
 ghost use Prim.Native.Nat.{_≤_};
 ghost use lib.ListN.{length};
 ghost use Rattle.lines.specs.Line.{room};
+use framing::input::keep;
 use libc::STDIN_FILENO;
 use libc::STDOUT_FILENO;
 use lines::line::put_header;
 use recording::Session;
-use recording::input::keep;
 
 // What goes on from turn to turn: the bytes from..held of the input buffer are still to be listed.
 struct State {

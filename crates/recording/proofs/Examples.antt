@@ -8,8 +8,8 @@ use Rattle.rds.specs.Read.{groupBy, readGroup}
 use Rattle.assembler.proofs.Examples.{computing}
 use Rattle.lines.specs.Decimal.{spelled, decimal}
 use Rattle.lines.specs.Line.{header, fields, line}
-use Rattle.recording.specs.Frame.{framed, frameOf}
-use Rattle.recording.specs.Carried.{byRds, carriedBy, runAfter, kindOf}
+use Rattle.framing.specs.Frame.{framed, frameOf, kindOf}
+use Rattle.carriers.specs.Carried.{byRds, carriedBy, runAfter}
 use Rattle.recording.specs.Session.{counted, answerText, afterWord, wordText, afterWords, wordsText, afterCarried, carriedText, afterRecord, recordText}
 use Rattle.recording.specs.Listing.{fromFrame, linesBy, linesFrom, listing}
 

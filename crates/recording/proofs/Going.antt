@@ -10,9 +10,9 @@ use lib.Seq.{take-at, take-all, drop-at, drop-drop, length-take-le}
 use Rattle.lines.specs.Text.{put, Put}
 use Rattle.lines.specs.Line.{refusalLine}
 use Rattle.recording.specs.declared.Session.{Session}
-use Rattle.recording.specs.declared.Frame.{Frame}
-use Rattle.recording.specs.declared.Frame.the-variants.{End, Part, Bad, Whole}
-use Rattle.recording.specs.Frame.{frameOf}
+use Rattle.framing.specs.declared.Frame.{Frame}
+use Rattle.framing.specs.declared.Frame.the-variants.{End, Part, Bad, Whole}
+use Rattle.framing.specs.Frame.{frameOf}
 use Rattle.recording.specs.Session.{next, afterRecord, recordText}
 use Rattle.recording.specs.Listing.{recordIn, linesFrom, recordRoom, whole, endedAt, refusedAt, linesLeft, Listed}
 use Rattle.recording.proofs.Lines.{whole-there, whole-lines, end-lines}

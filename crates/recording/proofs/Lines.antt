@@ -11,9 +11,9 @@ use borrow.Author.Tests.{leb-true, le-leb}
 use Rattle.bits.proofs.Choice.{and-left}
 use Rattle.lines.specs.Line.{refusalLine}
 use Rattle.recording.specs.declared.Session.{Session}
-use Rattle.recording.specs.declared.Frame.{Frame}
-use Rattle.recording.specs.declared.Frame.the-variants.{End, Part, Bad, Whole}
-use Rattle.recording.specs.Frame.{little, lengthFits, framed, frameOf}
+use Rattle.framing.specs.declared.Frame.{Frame}
+use Rattle.framing.specs.declared.Frame.the-variants.{End, Part, Bad, Whole}
+use Rattle.framing.specs.Frame.{little, lengthFits, framed, frameOf}
 use Rattle.recording.specs.Session.{next, afterRecord, recordText}
 use Rattle.recording.specs.Listing.{recordIn, fromFrame, linesBy, linesFrom, whole, endedAt, refusedAt, linesLeft}
 

@@ -6,13 +6,13 @@ use mathlib.Core.Bool.{Bool, true, false, cond}
 use mathlib.Core.List.{List, [], _++_}
 use lib.ListN.{length, take, drop}
 use Rattle.lines.specs.Line.{header, refusalLine, room}
-use Rattle.recording.specs.Carried.{mostWords}
-use Rattle.recording.specs.Frame.{frameOf}
+use Rattle.carriers.specs.Carried.{mostWords}
+use Rattle.framing.specs.Frame.{frameOf}
 use Rattle.recording.specs.Session.{start, next, afterRecord, recordText}
 use Rattle.recording.specs.declared.Session.{Session}
 use Rattle.recording.specs.declared.Progress.{Progress}
-use Rattle.recording.specs.declared.Frame.{Frame}
-use Rattle.recording.specs.declared.Frame.the-variants.{End, Part, Bad, Whole}
+use Rattle.framing.specs.declared.Frame.{Frame}
+use Rattle.framing.specs.declared.Frame.the-variants.{End, Part, Bad, Whole}
 
 -- the kind and body of a record of n bytes after its length
 abbrev pub recordIn : ℕ → List ℕ → List ℕ

@@ -11,7 +11,8 @@ use Rattle.assembler.specs.declared.Answer.the-variants as answer
 use Rattle.assembler.specs.declared.Step.{Step}
 use Rattle.assembler.specs.Step.{stepOf}
 use Rattle.lines.specs.Line.{reportLine, refusalLine}
-use Rattle.recording.specs.Carried.{Carries, gives, refuses, kindOf, carriedBy, runAfter}
+use Rattle.framing.specs.Frame.{kindOf}
+use Rattle.carriers.specs.Carried.{Carries, gives, refuses, carriedBy, runAfter}
 use Rattle.recording.specs.declared.Session.{Session}
 
 -- numbers count from 1; they are held in 64 bits

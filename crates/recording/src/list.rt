@@ -8,11 +8,10 @@ ghost use Rattle.lines.specs.Text.{Put};
 ghost use Rattle.lines.specs.Line.{refusalLine, room};
 ghost use Rattle.recording.specs.Session.{next as Session·next};
 ghost use Rattle.recording.specs.Listing.{Listed, endedAt, refusedAt};
-use crate::Frame;
 use crate::Progress;
 use crate::Session;
-use crate::framing::frame;
 use crate::telling::next;
+use framing::Frame;
 use lines::line::put_refusal;
 
 impl Session {
@@ -25,7 +24,7 @@ impl Session {
         let mut from = 0;
         let mut at = 0;
         while Session::ROOM <= out.len() - at {
-            let f = frame(&s[from..]);
+            let f = Frame::of(&s[from..]);
             let Frame::Whole(n) = f else {
                 let ended = is_ended(f, last);
                 let end = put_end(out, at, is_refused(f, last), session.records);
@@ -36,7 +35,7 @@ impl Session {
                     ended,
                 };
             };
-            let start = from + Session::LENGTH;
+            let start = from + Frame::LENGTH;
             let to = start + n;
             let told = session.record(&s[start..to], out, at);
             session = told.session;

@@ -4,14 +4,16 @@ ghost use Prim.Native.Nat.{_+_, _*_, _≤_};
 ghost use lib.ListN.{length};
 ghost use Rattle.lines.specs.Text.{Put};
 ghost use Rattle.lines.specs.Line.{room};
+ghost use Rattle.framing.specs.Frame.{kindOf as Frame·kindOf};
 ghost use Rattle.recording.specs.Session.{start, answerText, counted as Session·counted, next as Session·next, afterWord, wordText, afterWords, wordsText, afterRecord, recordText};
 ghost use Rattle.recording.specs.Listing.{recordRoom};
-use crate::Carried;
 use crate::Session;
 use crate::Told;
-use crate::carriers::receive;
 use assembler::Answer;
 use assembler::Assembler;
+use carriers::Carried;
+use carriers::receive;
+use framing::little;
 use lines::line::put_refusal;
 use lines::line::put_report;
 use rds::Run;
@@ -85,8 +87,10 @@ impl Session {
         let assembler = self.assembler;
         let run = self.run;
         let records = next(self.records);
-        let mut words = [0u64; Session::WORDS];
-        let reception = receive(run, bytes, &mut words);
+        let kind = kind_of(bytes);
+        let body = Session::KIND;
+        let mut words = [0u64; Carried::WORDS];
+        let reception = receive(run, kind, &bytes[body..], &mut words);
         let after = reception.run;
         let carried = reception.carried;
         let session = Session {
@@ -103,6 +107,14 @@ impl Session {
             }
         }
     }
+}
+
+// The kind, 16 bits, low byte first.
+fn kind_of(bytes: &[u8]) -> usize
+    requires { ⌜ 2 ≤ length (now bytes) ⌝ }
+    ensures { λ r. ⌜ r ≡ Frame·kindOf (now (bytes .entry)) ⌝ }
+{
+    little(bytes[0], bytes[1])
 }
 
 // The number of the last report, after an answer.

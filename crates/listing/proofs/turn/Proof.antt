@@ -5,7 +5,7 @@ use native.Mathlib.Omega.{arith}
 use mathlib.Core.Path.{sym}
 use lib.ListN.{length, drop}
 use lib.Seq.{length-take-le}
-use Rattle.recording.proofs.Moving.{part-length, within-front}
+use Rattle.framing.proofs.Moving.{part-length, within-front}
 use Rattle.listing.proofs.turn.Statement.{statement}
 use Rattle.listing.proofs.turn.Tie as tie
 

@@ -7,14 +7,14 @@ use mathlib.Core.Bool.{Bool, false, cond}
 use mathlib.Core.List.{[], _∷_}
 use types.Run.{OneOf}
 use denote.Enum.Declared as Declared
-use Rattle.recording.proofs.Frame as FrameType
-use Rattle.recording.specs.declared.Frame.{Frame}
-use Rattle.recording.specs.declared.Frame.the-variants.{End, Part, Bad, Whole}
+use Rattle.framing.proofs.Frame as FrameType
+use Rattle.framing.specs.declared.Frame.{Frame}
+use Rattle.framing.specs.declared.Frame.the-variants.{End, Part, Bad, Whole}
 use Rattle.recording.specs.Listing.{whole}
 use lib.ListN.{length, drop, length-drop}
 use borrow.Author.Needs.{needs}
 use Rattle.lines.specs.Line.{refusalLine}
-use Rattle.recording.specs.Frame.{frameOf}
+use Rattle.framing.specs.Frame.{frameOf}
 use Rattle.recording.specs.Session.{next, afterRecord, recordText}
 use Rattle.recording.proofs.Lines.{whole-there}
 use Rattle.recording.proofs.Going.{Going, going-start, going-next, going-end, going-full, tail-part, record-part, record-length}
@@ -41,17 +41,17 @@ loop-holds c = going-start _ _ _ _
 sub-loop : tie.Need-sub-loop Inv-loop μ-loop
 sub-loop c = omega (arith, c .loop .inv .written)
 
-sub-frame : tie.Need-sub-frame Inv-loop μ-loop
-sub-frame c = omega (arith, c .before .loop .inv .taken)
+sub-of : tie.Need-sub-of Inv-loop μ-loop
+sub-of c = omega (arith, c .before .loop .inv .taken)
 
-part-frame-start : tie.Need-part-frame-start Inv-loop μ-loop
-part-frame-start c = omega (arith, c .before .loop .inv .taken)
+part-of-start : tie.Need-part-of-start Inv-loop μ-loop
+part-of-start c = omega (arith, c .before .loop .inv .taken)
 
-part-frame-end : tie.Need-part-frame-end Inv-loop μ-loop
-part-frame-end c = search needs
+part-of-end : tie.Need-part-of-end Inv-loop μ-loop
+part-of-end c = search needs
 
-frame-requires : tie.Need-frame-requires Inv-loop μ-loop
-frame-requires c κs = tt
+of-requires : tie.Need-of-requires Inv-loop μ-loop
+of-requires c κs = tt
 
 enum-known-f : tie.Need-enum-known-f Inv-loop μ-loop
 enum-known-f c = search needs
@@ -73,7 +73,7 @@ returns c =
     let a = c .before .before .before .before .before .before .before .before .before .before .before .before .before .args in
     let l = c .before .before .before .before .before .before .before .before .before .before .loop in
     let call = c .before .before .put-end in
-    let f = c .before .before .before .before .before .before .before .frame in
+    let f = c .before .before .before .before .before .before .before .of in
     let at-hand = f .ensures ∙ ap frameOf (tail-part (l .from) (a .s .now)) in
     going-end (a .self) (a .s .now) (a .last) (a .out .now) (l .session) (l .from) (l .at) (l .out) (l .inv) _ (call .result) (call .last .0) (call .ensures .0)
     (f .result) (c .before .before .before .before .before .is-ended .result) (sym at-hand) (not-whole (f .result) (c .before .before .before .before .before .before .match .keys2))
@@ -82,37 +82,37 @@ returns c =
     (omega (arith, call .ensures .1, call .kept .0, c .before .before .before .before .before .before .before .before .before .loop-test .taken))
 
 add-start : tie.Need-add-start Inv-loop μ-loop
-add-start c = omega (arith, whole-there (drop (c .before .before .before .before .before .before .loop .from) (c .before .before .before .before .before .before .before .before .before .args .s .now)) (c .before .f .given .0 .0) (sym (c .before .before .before .frame .ensures ∙ ap frameOf (tail-part (c .before .before .before .before .before .before .loop .from) (c .before .before .before .before .before .before .before .before .before .args .s .now))) ∙ c .before .f .given .1), length-drop (c .before .before .before .before .before .before .loop .from) (c .before .before .before .before .before .before .before .before .before .args .s .now), c .before .before .before .before .before .before .loop .inv .taken)
+add-start c = omega (arith, whole-there (drop (c .before .before .before .before .before .before .loop .from) (c .before .before .before .before .before .before .before .before .before .args .s .now)) (c .before .f .given .0 .0) (sym (c .before .before .before .of .ensures ∙ ap frameOf (tail-part (c .before .before .before .before .before .before .loop .from) (c .before .before .before .before .before .before .before .before .before .args .s .now))) ∙ c .before .f .given .1), length-drop (c .before .before .before .before .before .before .loop .from) (c .before .before .before .before .before .before .before .before .before .args .s .now), c .before .before .before .before .before .before .loop .inv .taken)
 
 add-to : tie.Need-add-to Inv-loop μ-loop
-add-to c = omega (arith, whole-there (drop (c .before .before .before .before .before .before .loop .from) (c .before .before .before .before .before .before .before .before .before .args .s .now)) (c .before .f .given .0 .0) (sym (c .before .before .before .frame .ensures ∙ ap frameOf (tail-part (c .before .before .before .before .before .before .loop .from) (c .before .before .before .before .before .before .before .before .before .args .s .now))) ∙ c .before .f .given .1), length-drop (c .before .before .before .before .before .before .loop .from) (c .before .before .before .before .before .before .before .before .before .args .s .now), c .before .before .before .before .before .before .loop .inv .taken)
+add-to c = omega (arith, whole-there (drop (c .before .before .before .before .before .before .loop .from) (c .before .before .before .before .before .before .before .before .before .args .s .now)) (c .before .f .given .0 .0) (sym (c .before .before .before .of .ensures ∙ ap frameOf (tail-part (c .before .before .before .before .before .before .loop .from) (c .before .before .before .before .before .before .before .before .before .args .s .now))) ∙ c .before .f .given .1), length-drop (c .before .before .before .before .before .before .loop .from) (c .before .before .before .before .before .before .before .before .before .args .s .now), c .before .before .before .before .before .before .loop .inv .taken)
 
 sub-record : tie.Need-sub-record Inv-loop μ-loop
-sub-record c = omega (arith, whole-there (drop (c .before .before .before .before .before .before .loop .from) (c .before .before .before .before .before .before .before .before .before .args .s .now)) (c .before .f .given .0 .0) (sym (c .before .before .before .frame .ensures ∙ ap frameOf (tail-part (c .before .before .before .before .before .before .loop .from) (c .before .before .before .before .before .before .before .before .before .args .s .now))) ∙ c .before .f .given .1), length-drop (c .before .before .before .before .before .before .loop .from) (c .before .before .before .before .before .before .before .before .before .args .s .now), c .before .before .before .before .before .before .loop .inv .taken)
+sub-record c = omega (arith, whole-there (drop (c .before .before .before .before .before .before .loop .from) (c .before .before .before .before .before .before .before .before .before .args .s .now)) (c .before .f .given .0 .0) (sym (c .before .before .before .of .ensures ∙ ap frameOf (tail-part (c .before .before .before .before .before .before .loop .from) (c .before .before .before .before .before .before .before .before .before .args .s .now))) ∙ c .before .f .given .1), length-drop (c .before .before .before .before .before .before .loop .from) (c .before .before .before .before .before .before .before .before .before .args .s .now), c .before .before .before .before .before .before .loop .inv .taken)
 
 part-record-start : tie.Need-part-record-start Inv-loop μ-loop
-part-record-start c = omega (arith, whole-there (drop (c .before .before .before .before .before .before .loop .from) (c .before .before .before .before .before .before .before .before .before .args .s .now)) (c .before .f .given .0 .0) (sym (c .before .before .before .frame .ensures ∙ ap frameOf (tail-part (c .before .before .before .before .before .before .loop .from) (c .before .before .before .before .before .before .before .before .before .args .s .now))) ∙ c .before .f .given .1), length-drop (c .before .before .before .before .before .before .loop .from) (c .before .before .before .before .before .before .before .before .before .args .s .now), c .before .before .before .before .before .before .loop .inv .taken)
+part-record-start c = omega (arith, whole-there (drop (c .before .before .before .before .before .before .loop .from) (c .before .before .before .before .before .before .before .before .before .args .s .now)) (c .before .f .given .0 .0) (sym (c .before .before .before .of .ensures ∙ ap frameOf (tail-part (c .before .before .before .before .before .before .loop .from) (c .before .before .before .before .before .before .before .before .before .args .s .now))) ∙ c .before .f .given .1), length-drop (c .before .before .before .before .before .before .loop .from) (c .before .before .before .before .before .before .before .before .before .args .s .now), c .before .before .before .before .before .before .loop .inv .taken)
 
 part-record-end : tie.Need-part-record-end Inv-loop μ-loop
-part-record-end c = omega (arith, whole-there (drop (c .before .before .before .before .before .before .loop .from) (c .before .before .before .before .before .before .before .before .before .args .s .now)) (c .before .f .given .0 .0) (sym (c .before .before .before .frame .ensures ∙ ap frameOf (tail-part (c .before .before .before .before .before .before .loop .from) (c .before .before .before .before .before .before .before .before .before .args .s .now))) ∙ c .before .f .given .1), length-drop (c .before .before .before .before .before .before .loop .from) (c .before .before .before .before .before .before .before .before .before .args .s .now), c .before .before .before .before .before .before .loop .inv .taken)
+part-record-end c = omega (arith, whole-there (drop (c .before .before .before .before .before .before .loop .from) (c .before .before .before .before .before .before .before .before .before .args .s .now)) (c .before .f .given .0 .0) (sym (c .before .before .before .of .ensures ∙ ap frameOf (tail-part (c .before .before .before .before .before .before .loop .from) (c .before .before .before .before .before .before .before .before .before .args .s .now))) ∙ c .before .f .given .1), length-drop (c .before .before .before .before .before .before .loop .from) (c .before .before .before .before .before .before .before .before .before .args .s .now), c .before .before .before .before .before .before .loop .inv .taken)
 
 record-requires : tie.Need-record-requires Inv-loop μ-loop
 record-requires c κs =
     let l = c .before .before .before .before .before .before .before .before .loop in
     let s = c .before .before .before .before .before .before .before .before .before .before .before .args .s .now in
     let n = c .before .before .before .f .given .0 .0 in
-    let there = whole-there (drop (l .from) s) n (sym (c .before .before .before .before .before .frame .ensures ∙ ap frameOf (tail-part (l .from) s)) ∙ c .before .before .before .f .given .1) in
+    let there = whole-there (drop (l .from) s) n (sym (c .before .before .before .before .before .of .ensures ∙ ap frameOf (tail-part (l .from) s)) ∙ c .before .before .before .f .given .1) in
     (omega (arith, there .0, ap length (record-part (l .from) n s) ∙ record-length n (drop (l .from) s) (there .1)), omega (arith, c .before .before .before .before .before .before .before .loop-test .taken, l .inv .written))
 
 loop-less : tie.Need-loop-less Inv-loop μ-loop
-loop-less c = omega (arith, whole-there (drop (c .before .before .before .before .before .before .before .before .before .before .before .before .loop .from) (c .before .before .before .before .before .before .before .before .before .before .before .before .before .before .before .args .s .now)) (c .before .before .before .before .before .before .before .f .given .0 .0) (sym (c .before .before .before .before .before .before .before .before .before .frame .ensures ∙ ap frameOf (tail-part (c .before .before .before .before .before .before .before .before .before .before .before .before .loop .from) (c .before .before .before .before .before .before .before .before .before .before .before .before .before .before .before .args .s .now))) ∙ c .before .before .before .before .before .before .before .f .given .1), length-drop (c .before .before .before .before .before .before .before .before .before .before .before .before .loop .from) (c .before .before .before .before .before .before .before .before .before .before .before .before .before .before .before .args .s .now), c .before .before .before .before .before .before .before .before .before .before .before .before .loop .inv .taken)
+loop-less c = omega (arith, whole-there (drop (c .before .before .before .before .before .before .before .before .before .before .before .before .loop .from) (c .before .before .before .before .before .before .before .before .before .before .before .before .before .before .before .args .s .now)) (c .before .before .before .before .before .before .before .f .given .0 .0) (sym (c .before .before .before .before .before .before .before .before .before .of .ensures ∙ ap frameOf (tail-part (c .before .before .before .before .before .before .before .before .before .before .before .before .loop .from) (c .before .before .before .before .before .before .before .before .before .before .before .before .before .before .before .args .s .now))) ∙ c .before .before .before .before .before .before .before .f .given .1), length-drop (c .before .before .before .before .before .before .before .before .before .before .before .before .loop .from) (c .before .before .before .before .before .before .before .before .before .before .before .before .before .before .before .args .s .now), c .before .before .before .before .before .before .before .before .before .before .before .before .loop .inv .taken)
 
 loop-again : tie.Need-loop-again Inv-loop μ-loop
 loop-again c =
     let a = c .before .before .before .before .before .before .before .before .before .before .before .before .before .before .before .args in
     let l = c .before .before .before .before .before .before .before .before .before .before .before .before .loop in
     let call = c .before .before .before .«record» in
-    let f = c .before .before .before .before .before .before .before .before .before .frame in
+    let f = c .before .before .before .before .before .before .before .before .before .of in
     let n = c .before .before .before .before .before .before .before .f .given .0 .0 in
     let at-hand = sym (f .ensures ∙ ap frameOf (tail-part (l .from) (a .s .now))) ∙ c .before .before .before .before .before .before .before .f .given .1 in
     let part = record-part (l .from) n (a .s .now) in
@@ -137,10 +137,10 @@ list-spec =
     μ-loop
     loop-holds
     sub-loop
-    sub-frame
-    part-frame-start
-    part-frame-end
-    frame-requires
+    sub-of
+    part-of-start
+    part-of-end
+    of-requires
     enum-known-f
     is-ended-requires
     is-refused-requires

@@ -1,7 +1,7 @@
 -- By the frame.
 use borrow.Author.Needs.{needs}
 use mathlib.Core.Path.{sym, ap}
-use Rattle.recording.specs.declared.Frame.{Frame}
+use Rattle.framing.specs.declared.Frame.{Frame}
 use Rattle.recording.specs.Listing.{endedAt}
 use Rattle.recording.proofs.list.is_ended.Statement.{statement}
 use Rattle.recording.proofs.list.is_ended.Tie as tie
