@@ -1,12 +1,10 @@
 // The repeat rule.
 ghost use mathlib.Core.Path.{_≡_};
-ghost use Prim.Native.Nat.{_≤_};
-ghost use lib.ListN.{length};
-ghost use Rattle.cells.specs.Written.{written};
-ghost use Rattle.capi.specs.Runs.{runFits, runFrom, runCells, answerNumber, answerCells, receiveNumber, runAfter, answerAfter};
-use rds::Answer;
-use rds::Group;
-use rds::Run;
+ghost use Rattle.capi.specs.Runs.{receiveNumber, runAfter, answerAfter};
+use carrier_cells::runs::put_answer;
+use carrier_cells::runs::put_run;
+use carrier_cells::runs::run_fits;
+use carrier_cells::runs::run_from;
 
 // Takes a group into the run, and answers whether it gives a valid word, and that word.
 #[no_mangle]
@@ -28,64 +26,4 @@ pub extern "C" fn alertc_rds_receive(run: &mut [u64], group: &[u8], answer: &mut
     let said = step.answer;
     put_run(next, run);
     put_answer(said, answer)
-}
-
-// Whether groups lead to the run of these cells.
-fn run_fits(mark: u64, word: u64) -> bool
-    ensures { λ b. ⌜ b ≡ runFits mark word ⌝ }
-{
-    ((mark == 0) & (word == 0)) | (((mark == 1) | (mark == 2)) & (word < Group::WORDS))
-}
-
-fn run_from(mark: u64, word: u64) -> Run
-    ensures { λ r. ⌜ r ≡ runFrom mark word ⌝ }
-{
-    if mark == 0 {
-        return Run::Empty;
-    }
-    if mark == 1 {
-        return Run::One(word);
-    }
-    Run::More(word)
-}
-
-fn put_run(run: Run, out: &mut [u64])
-    requires { ⌜ 2 ≤ length (now out) ⌝ }
-    ensures { λ _. ⌜ now (out .exit) ≡ written (runCells run) (now (out .entry)) ⌝ }
-{
-    match run {
-        Run::Empty => {
-            out[0] = 0;
-            out[1] = 0;
-        }
-        Run::One(word) => {
-            out[0] = 1;
-            out[1] = word;
-        }
-        Run::More(word) => {
-            out[0] = 2;
-            out[1] = word;
-        }
-    }
-}
-
-// Puts an answer into two cells, and gives its number.
-fn put_answer(answer: Answer, out: &mut [u64]) -> u8
-    requires { ⌜ 2 ≤ length (now out) ⌝ }
-    ensures { λ n. ⌜ n ≡ answerNumber answer ⌝ }
-    ensures { λ _. ⌜ now (out .exit) ≡ written (answerCells answer) (now (out .entry)) ⌝ }
-{
-    match answer {
-        Answer::Nothing => {
-            out[0] = 0;
-            out[1] = 0;
-            0
-        }
-        Answer::Valid(word) => {
-            out[0] = 1;
-            out[1] = word;
-            0
-        }
-        Answer::Refused(n) => n,
-    }
 }

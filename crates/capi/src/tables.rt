@@ -1,20 +1,16 @@
 // The message table.
 ghost use mathlib.Core.Path.{_≡_};
-ghost use Prim.Native.Nat.{_≤_};
-ghost use lib.ListN.{length};
-ghost use Rattle.cells.specs.Written.{written};
 ghost use Rattle.table.specs.Expire.{expireStep, expireTable};
-ghost use Rattle.table.specs.Read.{recordAt};
-ghost use Rattle.capi.specs.Tables.{numberOf, takeCells, countOf, arrivalOf, takeNumber, tableAfter, clockAfter, answerAfter, readingNumber, recordCells, readNumber, recordAfter};
-use cells::array::put;
-use cells::reports::report_cells;
+ghost use Rattle.table_cells.specs.Tables.{numberOf, countOf};
+ghost use Rattle.capi.specs.Tables.{arrivalOf, takeNumber, tableAfter, clockAfter, answerAfter, readNumber, recordAfter};
 use cells::reports::report_from;
 use clock::Utc;
-use record::Reading;
 use record::Service;
-use table::Answer;
 use table::Arrival;
 use table::Table;
+use table_cells::put_answer;
+use table_cells::put_count;
+use table_cells::put_record;
 
 // Takes a report of a service at a minute, and answers in four cells.
 #[no_mangle]
@@ -51,35 +47,6 @@ pub extern "C" fn alertc_table_take(
     put_answer(said, answer)
 }
 
-// Puts the cells of an answer, and gives its number.
-fn put_answer(answer: Answer, out: &mut [u64]) -> u8
-    requires { ⌜ 4 ≤ length (now out) ⌝ }
-    ensures { λ n. ⌜ n ≡ numberOf answer ⌝ }
-    ensures { λ _. ⌜ now (out .exit) ≡ written (takeCells answer) (now (out .entry)) ⌝ }
-{
-    match answer {
-        Answer::Freed { expired, matched } => {
-            out[0] = expired as u64;
-            out[1] = matched as u64;
-            out[2] = 0;
-            out[3] = 0;
-            0
-        }
-        Answer::Stored {
-            expired,
-            matched,
-            place,
-        } => {
-            out[0] = expired as u64;
-            out[1] = matched as u64;
-            out[2] = 1;
-            out[3] = place as u64;
-            0
-        }
-        Answer::Refused(n) => n,
-    }
-}
-
 // Frees the records that expire at or before a minute, and answers their number.
 #[no_mangle]
 pub extern "C" fn alertc_table_expire(
@@ -100,31 +67,6 @@ pub extern "C" fn alertc_table_expire(
     put_count(said, expired)
 }
 
-// Puts how many records expired, and gives the number of the answer.
-fn put_count(answer: Answer, out: &mut usize) -> u8
-    ensures { λ n. ⌜ n ≡ numberOf answer ⌝ }
-    ensures { λ _. ⌜ now (out .exit) ≡ countOf answer (now (out .entry)) ⌝ }
-{
-    match answer {
-        Answer::Freed {
-            expired,
-            matched: _,
-        } => {
-            *out = expired;
-            0
-        }
-        Answer::Stored {
-            expired,
-            matched: _,
-            place: _,
-        } => {
-            *out = expired;
-            0
-        }
-        Answer::Refused(n) => n,
-    }
-}
-
 // Reads record number i into up to 69 cells.
 #[no_mangle]
 pub extern "C" fn alertc_table_read(table: &[u8], i: usize, out: &mut [u64]) -> u8
@@ -135,35 +77,4 @@ pub extern "C" fn alertc_table_read(table: &[u8], i: usize, out: &mut [u64]) -> 
         return 15;
     }
     put_record(Table::read(table, i), out)
-}
-
-// Puts the cells of a record that was read, and gives the number of the answer.
-fn put_record(reading: Reading, out: &mut [u64]) -> u8
-    requires { ⌜ 69 ≤ length (now out) ⌝ }
-    ensures { λ n. ⌜ n ≡ readingNumber (reading .answer) ⌝ }
-    ensures { λ _. ⌜ now (out .exit) ≡ written (recordCells (reading .answer) reading) (now (out .entry)) ⌝ }
-{
-    let answer = reading.answer;
-    let report = reading.report;
-    let service = reading.service;
-    match answer {
-        record::Answer::Free => {
-            out[0] = 0;
-            0
-        }
-        record::Answer::Read => {
-            out[0] = 1;
-            let cells = report_cells(report);
-            put(&cells, 1, out);
-            let rest = [
-                service.country as u64,
-                service.ltn as u64,
-                service.sid as u64,
-                reading.expiry as u64,
-            ];
-            put(&rest, 65, out);
-            0
-        }
-        record::Answer::Refused(n) => n,
-    }
 }

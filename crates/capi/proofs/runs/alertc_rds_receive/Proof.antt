@@ -10,7 +10,8 @@ use Rattle.rds.specs.Repeat.{received}
 use Rattle.bits.proofs.Choice.{chosen, passed-over}
 use Rattle.cells.specs.Written.{written}
 use Rattle.cells.proofs.Writing.{roomy-left, roomy-right}
-use Rattle.capi.specs.Runs.{answerNumber, answerCells, runCells, receiveNumber, runAfter, answerAfter}
+use Rattle.carrier_cells.specs.Runs.{answerNumber, answerCells, runCells}
+use Rattle.capi.specs.Runs.{receiveNumber, runAfter, answerAfter}
 use borrow.Author.Needs.{needs}
 use Rattle.capi.proofs.runs.alertc_rds_receive.Statement.{statement}
 use Rattle.capi.proofs.runs.alertc_rds_receive.Tie as tie

@@ -1,7 +1,7 @@
 -- What the table answers.
 use mathlib.Core.Path.{ap, _∙_}
 use Rattle.table.specs.declared.Step.{Step}
-use Rattle.capi.specs.Tables.{numberOf, countOf}
+use Rattle.table_cells.specs.Tables.{numberOf, countOf}
 use borrow.Author.Needs.{needs}
 use Rattle.capi.proofs.tables.alertc_table_expire.Statement.{statement}
 use Rattle.capi.proofs.tables.alertc_table_expire.Tie as tie

@@ -3,7 +3,8 @@ use mathlib.Core.Path.{ap, _∙_}
 use lib.ListN.{length}
 use Rattle.record.specs.declared.Reading.{Reading}
 use Rattle.cells.specs.Written.{written}
-use Rattle.capi.specs.Tables.{readingNumber, recordCells, readNumber, recordAfter}
+use Rattle.table_cells.specs.Tables.{readingNumber, recordCells}
+use Rattle.capi.specs.Tables.{readNumber, recordAfter}
 use Rattle.capi.proofs.Ways.{size-refused, size-passed}
 use borrow.Author.Needs.{needs}
 use Rattle.capi.proofs.tables.alertc_table_read.Statement.{statement}

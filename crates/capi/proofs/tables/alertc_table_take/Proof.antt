@@ -11,7 +11,8 @@ use Rattle.table.specs.Take.{takeStep, takeTable}
 use Rattle.bits.proofs.Choice.{chosen, passed-over}
 use Rattle.cells.specs.Written.{written}
 use Rattle.cells.proofs.Writing.{roomy-left, roomy-right}
-use Rattle.capi.specs.Tables.{numberOf, takeCells, takeNumber, tableAfter, clockAfter, answerAfter}
+use Rattle.table_cells.specs.Tables.{numberOf, takeCells}
+use Rattle.capi.specs.Tables.{takeNumber, tableAfter, clockAfter, answerAfter}
 use borrow.Author.Needs.{needs}
 use Rattle.capi.proofs.tables.alertc_table_take.Statement.{statement}
 use Rattle.capi.proofs.tables.alertc_table_take.Tie as tie

@@ -6,7 +6,8 @@ use mir.ValLaws.{toZ-ofZ}
 use Rattle.drm.specs.declared.Unit.{Unit}
 use Rattle.drm_write.specs.declared.Writing.{Writing}
 use Rattle.drm_write.specs.Write.{writeUnit, bytesAfter as bytesIn}
-use Rattle.capi.specs.Units.{writingNumber, lengthOf, unitFrom, writeNumber, bytesAfter, countWritten}
+use Rattle.carrier_cells.specs.Units.{unitFrom}
+use Rattle.capi.specs.Units.{writingNumber, lengthOf, writeNumber, bytesAfter, countWritten}
 use Rattle.capi.proofs.Ways.{size-refused, size-passed}
 use borrow.Author.Needs.{needs}
 use Rattle.capi.proofs.units.alertc_drm_write.Statement.{statement}
