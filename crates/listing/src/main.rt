@@ -7,7 +7,8 @@ use framing::input::keep;
 use libc::STDIN_FILENO;
 use libc::STDOUT_FILENO;
 use lines::line::put_header;
-use recording::Session;
+use recording::list;
+use session::Session;
 
 // What goes on from turn to turn: the bytes from..held of the input buffer are still to be listed.
 struct State {
@@ -65,7 +66,7 @@ fn turn(state: State, input: &mut [u8], out: &mut [u8]) -> State
     let session = state.session;
     let from = state.from;
     let held = state.held;
-    let progress = session.list(&input[from..held], state.last, out);
+    let progress = list(session, &input[from..held], state.last, out);
     let written = progress.written;
     let after = progress.session;
     let next = from + progress.taken;

@@ -10,7 +10,7 @@ use Rattle.lines.specs.Decimal.{spelled, decimal}
 use Rattle.lines.specs.Line.{header, fields, line}
 use Rattle.framing.specs.Frame.{framed, frameOf, kindOf}
 use Rattle.carriers.specs.Carried.{byRds, carriedBy, runAfter}
-use Rattle.recording.specs.Session.{counted, answerText, afterWord, wordText, afterWords, wordsText, afterCarried, carriedText, afterRecord, recordText}
+use Rattle.session.specs.Session.{counted, answerText, afterWord, wordText, afterWords, wordsText, afterCarried, carriedText, afterRecord, recordText}
 use Rattle.recording.specs.Listing.{fromFrame, linesBy, linesFrom, listing}
 
 -- a record with the worked group

@@ -6,15 +6,15 @@ use mathlib.Core.Logic.{inl, inr}
 use mathlib.Core.Bool.{Bool, true, false, cond}
 use mathlib.Core.List.{List, [], _++_, append-assoc}
 use lib.ListN.{length, take, drop, length-append, length-drop}
-use lib.Seq.{take-at, take-all, drop-at, drop-drop, length-take-le}
+use lib.Seq.{take-at, drop-at, drop-drop, length-take-le}
 use Rattle.lines.specs.Text.{put, Put}
 use Rattle.lines.specs.Line.{refusalLine}
-use Rattle.recording.specs.declared.Session.{Session}
+use Rattle.session.specs.declared.Session.{Session}
 use Rattle.framing.specs.declared.Frame.{Frame}
 use Rattle.framing.specs.declared.Frame.the-variants.{End, Part, Bad, Whole}
 use Rattle.framing.specs.Frame.{frameOf}
-use Rattle.recording.specs.Session.{next, afterRecord, recordText}
-use Rattle.recording.specs.Listing.{recordIn, linesFrom, recordRoom, whole, endedAt, refusedAt, linesLeft, Listed}
+use Rattle.session.specs.Session.{next, afterRecord, recordText, recordRoom}
+use Rattle.recording.specs.Listing.{recordIn, linesFrom, whole, endedAt, refusedAt, linesLeft, Listed}
 use Rattle.recording.proofs.Lines.{whole-there, whole-lines, end-lines}
 
 -- text up to a cell, and the cells after it, once more text is put there
@@ -105,10 +105,6 @@ module _ (s : Session) (input : List ℕ) (last : Bool) (out₀ : List ℕ) (now
 pub going-full : (s : Session) (input : List ℕ) (last : Bool) (out₀ : List ℕ) (now : Session) (from at : ℕ) (out : List ℕ) → Going s input last out₀ now from at out → length out < at + recordRoom → Listed s input last out₀ (record { session = now; taken = from; written = at; ended = false }) out
 going-full s input last out₀ now from at out g h =
     record { within = (g .taken, g .written); others = g .others; text = g .text; far = λ e. inl (omega (arith, h, g .same)) }
-
--- the bytes from a place on, as a part of all
-pub tail-part : (i : ℕ) (l : List ℕ) → take (length l - i) (drop i l) ≡ drop i l
-tail-part i l = take-all (length l - i) (drop i l) (omega (arith, length-drop i l))
 
 -- the record of n bytes after the length at a place, as a part of all
 pub record-part : (i n : ℕ) (l : List ℕ) → take (i + 2 + n - (i + 2)) (drop (i + 2) l) ≡ recordIn n (drop i l)

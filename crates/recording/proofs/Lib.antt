@@ -1,5 +1,4 @@
 pub mod Lines
 pub mod Going
-pub mod Turns
 pub mod Examples
 pub mod Pieces

@@ -10,11 +10,11 @@ use lib.Dec.{leb}
 use borrow.Author.Tests.{leb-true, le-leb}
 use Rattle.bits.proofs.Choice.{and-left}
 use Rattle.lines.specs.Line.{refusalLine}
-use Rattle.recording.specs.declared.Session.{Session}
+use Rattle.session.specs.declared.Session.{Session}
 use Rattle.framing.specs.declared.Frame.{Frame}
 use Rattle.framing.specs.declared.Frame.the-variants.{End, Part, Bad, Whole}
 use Rattle.framing.specs.Frame.{little, lengthFits, framed, frameOf}
-use Rattle.recording.specs.Session.{next, afterRecord, recordText}
+use Rattle.session.specs.Session.{next, afterRecord, recordText}
 use Rattle.recording.specs.Listing.{recordIn, fromFrame, linesBy, linesFrom, whole, endedAt, refusedAt, linesLeft}
 
 -- a whole record of n bytes after its length: 2 to 130, and they are there

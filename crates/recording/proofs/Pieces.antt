@@ -1,10 +1,10 @@
 -- However a recording comes in pieces, and whatever room each call has, the texts written one after the other are its lines.
 use Prim.Native.Nat.{ℕ}
-use mathlib.Core.Path.{_≡_, sym, ap, _∙_}
+use mathlib.Core.Path.{_≡_, ap, _∙_}
 use mathlib.Core.Bool.{Bool}
-use mathlib.Core.List.{List, [], _++_, append-nil}
+use mathlib.Core.List.{List, _++_, append-nil}
 use lib.ListN.{take, drop}
-use Rattle.recording.specs.declared.Session.{Session}
+use Rattle.session.specs.declared.Session.{Session}
 use Rattle.recording.specs.Listing.{linesFrom, linesLeft}
 use Rattle.recording.specs.Pieces.{InPieces, ending, going}
 

@@ -1,15 +1,14 @@
 -- The whole listing (document 01, "The listing program").
-use Prim.Native.Nat.{ℕ, zero, suc, _+_, _*_, _≤_, _<_}
+use Prim.Native.Nat.{ℕ, zero, suc, _+_, _≤_, _<_}
 use mathlib.Core.Path.{_≡_}
 use mathlib.Core.Logic.{_⊎_}
 use mathlib.Core.Bool.{Bool, true, false, cond}
 use mathlib.Core.List.{List, [], _++_}
 use lib.ListN.{length, take, drop}
-use Rattle.lines.specs.Line.{header, refusalLine, room}
-use Rattle.carriers.specs.Carried.{mostWords}
+use Rattle.lines.specs.Line.{header, refusalLine}
 use Rattle.framing.specs.Frame.{frameOf}
-use Rattle.recording.specs.Session.{start, next, afterRecord, recordText}
-use Rattle.recording.specs.declared.Session.{Session}
+use Rattle.session.specs.Session.{start, next, afterRecord, recordText, recordRoom}
+use Rattle.session.specs.declared.Session.{Session}
 use Rattle.recording.specs.declared.Progress.{Progress}
 use Rattle.framing.specs.declared.Frame.{Frame}
 use Rattle.framing.specs.declared.Frame.the-variants.{End, Part, Bad, Whole}
@@ -38,10 +37,6 @@ linesFrom s input = linesBy (suc (length input)) s input
 -- what is printed for a whole input: the header always, and then the lines
 unfoldable pub listing : List ℕ → List ℕ
 listing input = header ++ linesFrom start input
-
--- the most text that a record gives
-abbrev pub recordRoom : ℕ
-recordRoom = mostWords * room
 
 -- whether a record is whole
 unfoldable pub whole : Frame → Bool

@@ -1,10 +1,10 @@
--- A recording listed in pieces, by calls of `Session::list` one after the other.
+-- A recording listed in pieces, by calls of `list` one after the other.
 use mathlib.Core.Path.{_≡_}
 use mathlib.Core.Bool.{Bool, true, false}
 use mathlib.Core.List.{List, [], _++_}
 use Prim.Native.Nat.{ℕ}
 use lib.ListN.{take, drop}
-use Rattle.recording.specs.declared.Session.{Session}
+use Rattle.session.specs.declared.Session.{Session}
 use Rattle.recording.specs.declared.Progress.{Progress}
 use Rattle.recording.specs.Listing.{Listed}
 

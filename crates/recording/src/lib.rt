@@ -1,28 +1,17 @@
 // A recording of the house form, listed: records of any number, from bytes that come in pieces of any size.
-mod list;
-mod telling;
-
-use assembler::Assembler;
-use carriers::Carried;
-use lines::line::ROOM;
-use rds::Run;
-
-// What is held between two records.
-pub struct Session {
-    // One assembler serves all kinds.
-    pub assembler: Assembler,
-    // The run of equal words over all RDS records.
-    pub run: Run,
-    // The numbers of the last record and of the last report.
-    pub records: u64,
-    pub reports: u64,
-}
-
-// The session after some text was put, and the place after that text.
-pub struct Told {
-    pub session: Session,
-    pub at: usize,
-}
+ghost use mathlib.Core.Path.{_≡_};
+ghost use mathlib.Core.Bool.{cond};
+ghost use mathlib.Core.List.{[]};
+ghost use Prim.Native.Nat.{_+_, _≤_};
+ghost use lib.ListN.{length};
+ghost use Rattle.lines.specs.Text.{Put};
+ghost use Rattle.lines.specs.Line.{refusalLine, room};
+ghost use Rattle.session.specs.Session.{next as Session·next};
+ghost use Rattle.recording.specs.Listing.{Listed, endedAt, refusedAt};
+use framing::Frame;
+use lines::line::put_refusal;
+use session::Session;
+use session::next;
 
 // How far a call got: the session then, the bytes taken, the bytes of text, and whether the listing is at its end.
 pub struct Progress {
@@ -32,9 +21,74 @@ pub struct Progress {
     pub ended: bool,
 }
 
-impl Session {
-    // The bytes of a record's kind.
-    pub const KIND: usize = 2;
-    // The most text that a record gives.
-    pub const ROOM: usize = Carried::WORDS * ROOM;
+// Lists the records at the front of the bytes at hand, which may be the last ones, into the first cells of a buffer. It stops where
+// less than `Session::ROOM` is left of the buffer, and where only a part of a record or nothing is left of the bytes.
+pub fn list(begun: Session, s: &[u8], last: bool, out: &mut [u8]) -> Progress
+    ensures { λ r. ⌜ Listed begun (now (s .entry)) last (now (out .entry)) r (now (out .exit)) ⌝ }
+{
+    let mut session = begun;
+    let mut from = 0;
+    let mut at = 0;
+    while Session::ROOM <= out.len() - at {
+        let f = Frame::of(&s[from..]);
+        let Frame::Whole(n) = f else {
+            let ended = is_ended(f, last);
+            let end = put_end(out, at, is_refused(f, last), session.records);
+            return Progress {
+                session,
+                taken: from,
+                written: end,
+                ended,
+            };
+        };
+        let start = from + Frame::LENGTH;
+        let to = start + n;
+        let told = session.record(&s[start..to], out, at);
+        session = told.session;
+        at = told.at;
+        from = to;
+    }
+    Progress {
+        session,
+        taken: from,
+        written: at,
+        ended: false,
+    }
+}
+
+// Whether bytes that begin so end the listing.
+fn is_ended(f: Frame, last: bool) -> bool
+    ensures { λ r. ⌜ r ≡ endedAt f last ⌝ }
+{
+    match f {
+        Frame::End => last,
+        Frame::Part => last,
+        Frame::Bad => true,
+        Frame::Whole(_) => false,
+    }
+}
+
+// Whether they print refusal 1.
+fn is_refused(f: Frame, last: bool) -> bool
+    ensures { λ r. ⌜ r ≡ refusedAt f last ⌝ }
+{
+    match f {
+        Frame::End => false,
+        Frame::Part => last,
+        Frame::Bad => true,
+        Frame::Whole(_) => false,
+    }
+}
+
+// Puts refusal 1 of the next record, if there is one.
+fn put_end(out: &mut [u8], at: usize, refused: bool, records: u64) -> usize
+    requires { ⌜ at + room ≤ length (now out) ⌝ }
+    ensures { λ r. ⌜ Put at (cond refused (refusalLine (Session·next records) 1) []) (now (out .entry)) r (now (out .exit)) ⌝ }
+    ensures { λ r. ⌜ r ≤ at + room ⌝ }
+{
+    if refused {
+        put_refusal(out, at, next(records), 1)
+    } else {
+        at
+    }
 }
