@@ -3,10 +3,10 @@ use Prim.Native.Nat.{ℕ, zero, suc, _+_, _*_, _<_}
 use native.Mathlib.Omega.{arith}
 use mathlib.Core.Path.{_≡_, refl, sym, ap, ap₂, _∙_}
 use mathlib.Core.List.{List, [], _∷_, _++_, append-assoc}
-use lib.ListN.{length, take, drop, getD, set, length-set}
-use lib.Seq.{drop-cons, take-suc, take-suc-set}
+use lib.ListN.{length, take, getD, set, length-set}
+use lib.Seq.{take-suc, take-suc-set}
 use Rattle.content.specs.declared.item.Item.{Item}
-use Rattle.cells.specs.Reports.{itemCells, itemsFrom, itemLimits}
+use Rattle.cells.specs.Reports.{itemCells, itemLimits}
 
 pub label-limit : (n i : ℕ) → i < n → getD (itemLimits n) (2 * i) 0 ≡ 65536
 unfolding itemLimits
@@ -23,18 +23,6 @@ value-limit (suc n) zero h = refl
 value-limit (suc n) (suc i) h =
     let e : 2 * suc i + 1 ≡ suc (suc (2 * i + 1)) = omega arith in
     ap (λ (k : ℕ). getD (itemLimits (suc n)) k 0) e ∙ value-limit n i (omega arith)
-
--- the items from a place on
-pub items-next : (cells : List ℕ) (i : ℕ) → 2 * i + 1 < length cells
-    → itemsFrom (drop (2 * i) cells) ≡ record { label = getD cells (2 * i) 0; value = getD cells (2 * i + 1) 0 } ∷ itemsFrom (drop (2 * suc i) cells)
-unfolding itemsFrom
-items-next cells i h =
-    let e : suc (2 * i) ≡ 2 * i + 1 = omega arith in
-    let f : suc (2 * i + 1) ≡ 2 * suc i = omega arith in
-    ap itemsFrom
-    (drop-cons cells (2 * i) 0 (omega arith)
-    ∙ ap (λ (l : List ℕ). getD cells (2 * i) 0 ∷ l)
-    (ap (λ (k : ℕ). drop k cells) e ∙ drop-cons cells (2 * i + 1) 0 h ∙ ap (λ (k : ℕ). getD cells (2 * i + 1) 0 ∷ drop k cells) f))
 
 itemCells-append : (a b : List Item) → itemCells (a ++ b) ≡ itemCells a ++ itemCells b
 unfolding itemCells

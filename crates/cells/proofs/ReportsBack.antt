@@ -9,13 +9,13 @@ use lib.Seq.{take-all, take-add, length-take-le}
 use Rattle.bits.specs.Fields.{fits}
 use Rattle.bits.proofs.Choice.{chosen, passed-over}
 use Rattle.content.specs.declared.item.Item.{Item}
-use Rattle.content.specs.Stored.{filled, wellPlaced}
+use Rattle.content.specs.Stored.{itemsFrom, filled, wellPlaced}
 use Rattle.report.specs.declared.Report.{Report}
 use Rattle.report.specs.declared.Form.{Form}
 use Rattle.report.specs.declared.Form.the-variants.{Single, Multi}
 use Rattle.report.specs.Fits.{singleFits, fitsBy, reportFits}
 use Rattle.cells.specs.Ranges.{below}
-use Rattle.cells.specs.Reports.{formCell, formFrom, itemCells, itemsFrom, reportCells, itemLimits, reportLimits, reportIn, unfitReport, reportFrom}
+use Rattle.cells.specs.Reports.{formCell, formFrom, itemCells, reportCells, itemLimits, reportLimits, reportIn, unfitReport, reportFrom}
 use Rattle.cells.proofs.Arrays.{below-length, cell-below, from, cells-from}
 
 -- no call takes the report that stands for cells out of their ranges

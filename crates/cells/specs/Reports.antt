@@ -4,7 +4,7 @@ use mathlib.Core.Bool.{cond}
 use mathlib.Core.List.{List, [], _∷_, _++_}
 use lib.ListN.{take, drop, getD}
 use Rattle.content.specs.declared.item.Item.{Item}
-use Rattle.content.specs.Stored.{limit, filled}
+use Rattle.content.specs.Stored.{limit, itemsFrom, filled}
 use Rattle.report.specs.declared.Report.{Report}
 use Rattle.report.specs.declared.Form.{Form}
 use Rattle.report.specs.declared.Form.the-variants.{Single, Multi}
@@ -24,11 +24,6 @@ formFrom (suc n) = Multi
 unfoldable pub itemCells : List Item → List ℕ
 itemCells [] = []
 itemCells (i ∷ its) = i .label ∷ i .value ∷ itemCells its
-
-unfoldable pub itemsFrom : List ℕ → List Item
-itemsFrom [] = []
-itemsFrom (l ∷ []) = []
-itemsFrom (l ∷ v ∷ cells) = record { label = l; value = v } ∷ itemsFrom cells
 
 -- form, event, location, direction, extent, diversion, duration, number of items
 abbrev pub leadCells : Report → List ℕ

@@ -9,7 +9,7 @@ pub mod AtMost28
 pub mod Places
 pub mod Remaining
 pub mod Reader
-pub mod WidthBound
+pub mod WidthRuns
 pub mod Prepending
 pub mod PackedIsRead
 pub mod WorkedContent

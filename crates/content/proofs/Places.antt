@@ -1,5 +1,5 @@
 -- The laws of items in their places.
-use Prim.Native.Nat.{ℕ, zero, suc, _+_, _-_, _≤_, _<_}
+use Prim.Native.Nat.{ℕ, zero, suc, _+_, _-_, _*_, _≤_, _<_}
 use native.Mathlib.Omega.{arith}
 use mathlib.Core.Path.{_≡_, refl, sym, ap, ap₂, _∙_}
 use mathlib.Core.Bool.{true, _&&_}
@@ -9,7 +9,7 @@ use lib.Seq.{take-at, drop-at, set-at, length-take-le, append-snoc, drop-cons, g
 use lib.Dec.{eqb, leb}
 use borrow.Author.Tests.{le-leb, leb-true, eqb-true}
 use Rattle.content.specs.Packing.{zeroItem, lastZero}
-use Rattle.content.specs.Stored.{limit, noItem, filled, listed, allZeroItems, wellPlaced}
+use Rattle.content.specs.Stored.{limit, noItem, itemsFrom, held, filled, listed, allZeroItems, wellPlaced}
 use Rattle.content.specs.declared.item.Item.{Item}
 use Rattle.content.specs.declared.items.Items.{Items}
 use Rattle.bits.proofs.Choice.{and-left, and-right}
@@ -56,7 +56,7 @@ filled-listed s n h =
     (ap (λ (x : ℕ). listed s ++ replicate x noItem) m ∙ ap (λ (d : List Item). listed s ++ d) (sym z) ∙ take-append-drop (s .count) (s .places))
 
 -- one item more, in the first unused place
-pub filled-snoc : (its : List Item) (i : Item) → length its < limit
+filled-snoc : (its : List Item) (i : Item) → length its < limit
     → filled (its ++ (i ∷ [])) ≡ record { count = length its + 1; places = set ((filled its) .places) (length its) i }
 unfolding filled
 filled-snoc its i h =
@@ -68,7 +68,7 @@ filled-snoc its i h =
     ∙ sym (ap (λ (x : ℕ). set (its ++ replicate x noItem) (length its) i) r
     ∙ set-at its noItem (replicate (limit - (length its + 1)) noItem) i (length its) refl))
 
-pub pushed-places : (s : Items) (i : Item) → s .count < limit → filled (listed s) ≡ s
+pushed-places : (s : Items) (i : Item) → s .count < limit → filled (listed s) ≡ s
     → record { count = s .count + 1; places = set (s .places) (s .count) i } ≡ filled (listed s ++ (i ∷ []))
 unfolding filled
 pushed-places s i h e =
@@ -111,12 +111,43 @@ module _ (s : Items) (n : length (s .places) ≡ limit) (h : s .count ≤ limit)
       ap (λ (j : Item). j ∷ drop (suc i) (listed s)) (sym (listed-at i l))
       ∙ sym (drop-cons (listed s) i noItem (let k = length-listed in omega arith))
 
+-- the items from a place on
+pub items-next : (cells : List ℕ) (i : ℕ) → 2 * i + 1 < length cells
+    → itemsFrom (drop (2 * i) cells) ≡ record { label = getD cells (2 * i) 0; value = getD cells (2 * i + 1) 0 } ∷ itemsFrom (drop (2 * suc i) cells)
+unfolding itemsFrom
+items-next cells i h =
+    let e : suc (2 * i) ≡ 2 * i + 1 = omega arith in
+    let f : suc (2 * i + 1) ≡ 2 * suc i = omega arith in
+    ap itemsFrom
+    (drop-cons cells (2 * i) 0 (omega arith)
+    ∙ ap (λ (l : List ℕ). getD cells (2 * i) 0 ∷ l)
+    (ap (λ (k : ℕ). drop k cells) e ∙ drop-cons cells (2 * i + 1) 0 h ∙ ap (λ (k : ℕ). getD cells (2 * i + 1) 0 ∷ drop k cells) f))
+
+-- two cells are one place
+items-set : (cells : List ℕ) (n : ℕ) (i : Item) → 2 * n + 1 < length cells
+    → itemsFrom (set (set cells (2 * n) (i .label)) (2 * n + 1) (i .value)) ≡ set (itemsFrom cells) n i
+unfolding itemsFrom
+items-set [] n i h = absurd (omega arith)
+items-set (l ∷ []) n i h = absurd (omega arith)
+items-set (l ∷ v ∷ cells) zero i h = refl
+items-set (l ∷ v ∷ cells) (suc n) i h =
+    let e : 2 * suc n ≡ suc (suc (2 * n)) = omega arith in
+    let f : 2 * suc n + 1 ≡ suc (suc (2 * n + 1)) = omega arith in
+    ap₂ (λ (x y : ℕ). itemsFrom (set (set (l ∷ v ∷ cells) x (i .label)) y (i .value))) e f
+    ∙ ap (λ (its : List Item). record { label = l; value = v } ∷ its) (items-set cells n i (omega arith))
+
+-- zero cells hold no items
+pub held-none : held 0 (replicate (2 * limit) 0) ≡ filled []
+unfolding itemsFrom filled
+held-none = refl
+
+-- one item more, in the cells of the first unused place
+pub put-item : (n : ℕ) (cells : List ℕ) (i : Item) → n < limit → 2 * n + 1 < length cells → filled (listed (held n cells)) ≡ held n cells
+    → held (n + 1) (set (set cells (2 * n) (i .label)) (2 * n + 1) (i .value)) ≡ filled (listed (held n cells) ++ (i ∷ []))
+put-item n cells i h k e =
+    ap (λ (p : List Item). let s : Items = record { count = n + 1; places = p } in s) (items-set cells n i k)
+    ∙ pushed-places (held n cells) i h e
+
 -- items that are filled from a list are filled from their own
 pub refilled : (its : List Item) (s : Items) → s ≡ filled its → filled (listed s) ≡ s
 refilled its s e = ap (λ (x : Items). filled (listed x)) e ∙ ap filled (listed-filled its) ∙ sym e
-
-pub pushed-count : (s : Items) (i : Item) (r : Items) → filled (listed s) ≡ s → r ≡ filled (listed s ++ (i ∷ [])) → r .count ≡ s .count + 1
-unfolding filled
-pushed-count s i r e f =
-    let n : length (listed s) ≡ s .count = ap (λ (x : Items). x .count) e in
-    ap (λ (x : Items). x .count) f ∙ length-append (listed s) (i ∷ []) ∙ ap (λ (x : ℕ). x + 1) n

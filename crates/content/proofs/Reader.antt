@@ -7,11 +7,14 @@ use mathlib.Core.List.{List, [], _∷_, _++_, append-assoc, append-nil}
 use Rattle.bits.specs.Bits.{allZero}
 use Rattle.content.specs.Widths.{labelWidth}
 use Rattle.content.specs.Items.{item, unfit, first, Reading, holds, refused, prepend, items}
-use Rattle.content.specs.FirstLaw.{first-shorter}
+use Rattle.content.specs.FirstLaw.{first-shorter, first-number}
 use Rattle.content.specs.ItemsLaw.{items-zero, items-unfit, items-item}
 use Rattle.content.specs.Held.{remaining}
-use Rattle.content.specs.Answers.{firstOf, leftOf, appended}
+use Rattle.content.specs.Answers.{firstOf, leftOf, appended, readingOf, Told}
 use Rattle.content.specs.declared.item.Item.{Item}
+use Rattle.content.specs.declared.items.Items.{Items}
+use Rattle.content.specs.declared.read.Reading as read
+use Rattle.content.specs.declared.read.ReadAnswer.the-variants as readAnswer
 use Rattle.content.specs.declared.rest.Rest.{Rest}
 use Rattle.content.specs.declared.rest.Taken.{Taken}
 use Rattle.content.specs.declared.rest.Taken.the-variants as taken
@@ -40,6 +43,9 @@ module _ (r : Rest) (x : Taken) (e : firstOf x ≡ first (remaining r)) where
   unfolding firstOf
   took-none n a = sym e ∙ ap firstOf a
 
+  pub took-number : (n : ℕ) → x ≡ taken.Refused n → 0 < n
+  took-number n a = first-number (remaining r) n (took-none n a)
+
   module _ (i : Item) (next : Rest) (a : x ≡ taken.Item i next) where
     pub took-item : first (remaining r) ≡ item i (remaining next)
     unfolding firstOf
@@ -58,3 +64,15 @@ pub found-none : (r : Reading) → appended [] r ≡ r
 unfolding appended
 found-none (holds its) = refl
 found-none (refused n) = refl
+
+-- what the number that the reader answers tells
+module _ (r : ℕ) (s : Items) where
+  pub told-read : (x : Reading) → Told x r s → r ≡ 0 → record { answer = readAnswer.Read; items = s } ≡ readingOf x
+  unfolding Told readingOf
+  told-read (holds its) t z = ap (λ (y : Items). let a : read.Reading = record { answer = readAnswer.Read; items = y } in a) (t .1)
+  told-read (refused n) t z = absurd (omega arith)
+
+  pub told-refused : (x : Reading) → Told x r s → (r ≡ 0 → ⊥) → refused r ≡ x
+  unfolding Told
+  told-refused (holds its) t z = absurd (z (t .0))
+  told-refused (refused n) t z = ap refused (t .0)

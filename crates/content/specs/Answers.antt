@@ -1,5 +1,6 @@
 -- The code's answers, by the definitions of what is read and written.
-use Prim.Native.Nat.{ℕ}
+use Prim.Native.Nat.{ℕ, _<_}
+use mathlib.Core.Path.{_≡_}
 use mathlib.Core.Bool.{Bool, true, false, _&&_}
 use mathlib.Core.List.{List, [], _++_}
 use lib.ListN.{length}
@@ -35,6 +36,11 @@ appended before (refused n) = refused n
 unfoldable pub readingOf : Reading → read.Reading
 readingOf (holds its) = record { answer = readAnswer.Read; items = filled its }
 readingOf (refused n) = record { answer = readAnswer.Refused n; items = filled [] }
+
+-- what the reader is told of the items held when it answers a number: 0, or that of the refusal
+unfoldable pub Told : Reading → ℕ → Items → Type 0
+Told (holds its) r s = (r ≡ 0) × (s ≡ filled its)
+Told (refused n) r s = (r ≡ n) × (0 < n)
 
 -- items packed: how many bits, and the bits
 unfoldable pub packed : List Item → Packed

@@ -16,6 +16,16 @@ limit = 28
 abbrev pub noItem : Item
 noItem = record { label = 0; value = 0 }
 
+-- the items of cells, a label and a value each
+unfoldable pub itemsFrom : List ℕ → List Item
+itemsFrom [] = []
+itemsFrom (l ∷ []) = []
+itemsFrom (l ∷ v ∷ cells) = record { label = l; value = v } ∷ itemsFrom cells
+
+-- so many items, in the places of cells
+abbrev pub held : ℕ → List ℕ → Items
+held count cells = record { count = count; places = itemsFrom cells }
+
 -- the items, and zero items up to 28
 unfoldable pub filled : List Item → Items
 filled its = record { count = length its; places = its ++ replicate (limit - length its) noItem }

@@ -1,9 +1,10 @@
 // The items of one message by value: their number, and places of which the unused ones are zero.
 ghost use mathlib.Core.Path.{_≡_};
-ghost use mathlib.Core.List.{[], _∷_, _++_};
-ghost use Prim.Native.Nat.{_<_, _≤_};
+ghost use mathlib.Core.List.{[]};
+ghost use Prim.Native.Nat.{_*_, _≤_};
+ghost use lib.ListN.{length};
 ghost use Rattle.content.specs.Packing.{lastZero};
-ghost use Rattle.content.specs.Stored.{limit, filled, listed, wellPlaced};
+ghost use Rattle.content.specs.Stored.{limit, filled, listed, held, itemsFrom, wellPlaced};
 use crate::item::Item;
 
 pub struct Items {
@@ -15,6 +16,9 @@ impl Items {
     // The most items that content holds.
     pub const LIMIT: usize = 28;
 
+    // The numbers that places are: a label and a value each.
+    pub const CELLS: usize = 2 * Self::LIMIT;
+
     // No items.
     pub fn new() -> Self
         ensures { λ r. ⌜ r ≡ filled [] ⌝ }
@@ -24,15 +28,15 @@ impl Items {
         Items { count: 0, places }
     }
 
-    // One item more.
-    pub fn pushed(mut self, item: Item) -> Self
-        requires { ⌜ (self .count < limit) × (filled (listed self) ≡ self) ⌝ }
-        ensures { λ r. ⌜ r ≡ filled (listed self ++ (item ∷ [])) ⌝ }
+    // The items of cells.
+    pub(crate) fn from_cells(count: usize, cells: &[u16; Items::CELLS]) -> Self
+        requires { ⌜ length (now cells) ≡ 2 * limit ⌝ }
+        ensures { λ r. ⌜ r ≡ held count (now (cells .entry)) ⌝ }
     {
-        let n = self.count;
-        self.places[n] = item;
-        self.count = n + 1;
-        self
+        Items {
+            count,
+            places: places_in(cells),
+        }
     }
 
     // Whether there are at most 28 and the unused places are zero.
@@ -65,4 +69,22 @@ impl Items {
         let last = self.places[n - 1];
         last.is_zero()
     }
+}
+
+// The places of cells.
+fn places_in(cells: &[u16; Items::CELLS]) -> [Item; Items::LIMIT]
+    requires { ⌜ length (now cells) ≡ 2 * limit ⌝ }
+    ensures { λ r. ⌜ r ≡ itemsFrom (now (cells .entry)) ⌝ }
+{
+    let none = Item { label: 0, value: 0 };
+    let mut places = [none; Items::LIMIT];
+    let mut i = 0;
+    while i < Items::LIMIT {
+        places[i] = Item {
+            label: cells[2 * i],
+            value: cells[2 * i + 1],
+        };
+        i += 1;
+    }
+    places
 }

@@ -1,12 +1,12 @@
 // The items of content bits.
 ghost use mathlib.Core.Path.{_≡_};
 ghost use Prim.Native.Nat.{_+_, _*_, _≤_};
-ghost use lib.ListN.{take};
+ghost use lib.ListN.{length, take};
 ghost use Rattle.content.specs.Items.{refused, items, content};
 ghost use Rattle.content.specs.Packing.{longest};
 ghost use Rattle.content.specs.Held.{bitsOf, remaining};
-ghost use Rattle.content.specs.Stored.{filled, listed};
-ghost use Rattle.content.specs.Answers.{appended, readingOf};
+ghost use Rattle.content.specs.Stored.{limit, filled, listed, held};
+ghost use Rattle.content.specs.Answers.{appended, readingOf, Told};
 use crate::content::Content;
 use crate::items::Items;
 use crate::rest::Rest;
@@ -28,33 +28,45 @@ pub struct Reading {
 pub fn read(c: Content, length: usize) -> Reading
     ensures { λ r. ⌜ r ≡ readingOf (content (take length (bitsOf c))) ⌝ }
 {
-    if Content::is_length(length) {
-        read_rest(
-            Rest {
-                bits: c,
-                left: length,
-            },
-            Items::new(),
-        )
+    if !Content::is_length(length) {
+        return Reading::refused(1);
+    }
+    let mut count = 0;
+    let mut cells = [0u16; Items::CELLS];
+    let rest = Rest {
+        bits: c,
+        left: length,
+    };
+    let refused = read_rest(rest, &mut count, &mut cells);
+    if refused == 0 {
+        Reading {
+            answer: ReadAnswer::Read,
+            items: Items::from_cells(count, &cells),
+        }
     } else {
-        Reading::refused(1)
+        Reading::refused(refused)
     }
 }
 
-// The items found, and then those of the rest: one item and then the reading of the rest after one item.
-fn read_rest(rest: Rest, found: Items) -> Reading
-    requires { ⌜ (4 * found .count + rest .left ≤ longest) × (filled (listed found) ≡ found) ⌝ }
-    ensures { λ r. ⌜ r ≡ readingOf (appended (listed found) (items (remaining rest))) ⌝ }
+// The items found, and then those of the rest: one item and then the reading of the rest after one item. Answers the refusal's number, or 0.
+// The items stand in cells that are lent, and not in a struct by value: each turn would copy that.
+fn read_rest(rest: Rest, count: &mut usize, cells: &mut [u16; Items::CELLS]) -> u8
+    requires { ⌜ (length (now cells) ≡ 2 * limit) × (4 * now count + rest .left ≤ longest) × (filled (listed (held (now count) (now cells))) ≡ held (now count) (now cells)) ⌝ }
+    ensures { λ _. ⌜ length (now (cells .exit)) ≡ 2 * limit ⌝ }
+    ensures { λ r. ⌜ Told (appended (listed (held (now (count .entry)) (now (cells .entry)))) (items (remaining rest))) r (held (now (count .exit)) (now (cells .exit))) ⌝ }
 {
     if rest.is_zero() {
-        return Reading {
-            answer: ReadAnswer::Read,
-            items: found,
-        };
+        return 0;
     }
     match rest.take_item() {
-        Taken::Item(item, next) => read_rest(next, found.pushed(item)),
-        Taken::Refused(n) => Reading::refused(n),
+        Taken::Item(item, next) => {
+            let n = *count;
+            cells[2 * n] = item.label;
+            cells[2 * n + 1] = item.value;
+            *count = n + 1;
+            read_rest(next, count, cells)
+        }
+        Taken::Refused(n) => n,
     }
 }
 

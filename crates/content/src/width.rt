@@ -3,12 +3,17 @@ ghost use mathlib.Core.Path.{_≡_};
 ghost use Prim.Native.Nat.{_<_, _≤_};
 ghost use Rattle.content.specs.Widths.{width, sublabelled};
 
-const WIDTHS: [usize; 15] = [3, 3, 5, 5, 5, 8, 8, 8, 8, 11, 16, 16, 16, 16, 0];
-
 // The bits of a label's value.
 pub fn width_of(label: u16) -> usize
     requires { ⌜ label < sublabelled ⌝ }
     ensures { λ r. ⌜ (r ≡ width label) × (r ≤ 16) ⌝ }
 {
-    WIDTHS[label as usize]
+    match label {
+        0 | 1 => 3,
+        2 | 3 | 4 => 5,
+        5 | 6 | 7 | 8 => 8,
+        9 => 11,
+        10 | 11 | 12 | 13 => 16,
+        _ => 0,
+    }
 }

@@ -8,11 +8,12 @@ use mathlib.Core.List.{List, _++_, append-nil}
 use lib.ListN.{length, take, drop, getD, length-set, drop-of-length-le}
 use lib.Seq.{take-suc-set, append-snoc, take-all}
 use Rattle.content.specs.declared.item.Item.{Item}
-use Rattle.content.specs.Stored.{limit}
+use Rattle.content.specs.Stored.{limit, itemsFrom}
+use Rattle.content.proofs.Places.{items-next}
 use Rattle.cells.specs.Ranges.{below}
-use Rattle.cells.specs.Reports.{itemsFrom, itemLimits}
+use Rattle.cells.specs.Reports.{itemLimits}
 use Rattle.cells.proofs.Arrays.{below-length, below-at}
-use Rattle.cells.proofs.Places.{label-limit, value-limit, items-next}
+use Rattle.cells.proofs.Places.{label-limit, value-limit}
 use Rattle.cells.proofs.reports.places_in.Statement.{statement}
 use Rattle.cells.proofs.reports.places_in.Tie as tie
 

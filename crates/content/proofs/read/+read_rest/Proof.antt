@@ -1,38 +1,34 @@
--- One item is taken, put after those found, and the rest is read; the measure is the number of bits left.
-use Prim.Native.Nat.{ℕ, _+_, _<_}
+-- One item is taken, put into the cells after those found, and the rest is read; the measure is the number of bits left.
+use Prim.Native.Nat.{ℕ, _+_, _*_, _≤_, _<_}
 use native.Mathlib.Omega.{arith}
-use mathlib.Core.Path.{_≡_, sym, ap, _∙_}
+use mathlib.Core.Path.{_≡_, refl, sym, ap, subst, _∙_}
 use mathlib.Core.List.{List, [], _∷_, _++_}
 use mathlib.Core.Bool.{true, false}
+use lib.ListN.{length, set, length-set}
 use borrow.Author.Needs.{needs}
 use borrow.Fn.Kinds.{In}
 use borrow.Fn.PlainCycle.{Measures, is, falls, and}
 use Rattle.bits.specs.Bits.{allZero}
-use Rattle.content.specs.Items.{items}
+use Rattle.content.specs.Items.{Reading, items}
 use Rattle.content.specs.Held.{remaining}
-use Rattle.content.specs.Stored.{filled, listed}
-use Rattle.content.specs.Answers.{appended, readingOf}
+use Rattle.content.specs.Stored.{held, filled, listed}
+use Rattle.content.specs.Answers.{appended, Told}
 use Rattle.content.specs.declared.item.Item.{Item}
-use Rattle.content.specs.declared.items.Items.{Items}
-use Rattle.content.specs.declared.read.Reading.{Reading}
-use Rattle.content.specs.declared.read.ReadAnswer.the-variants as readAnswer
-use Rattle.content.proofs.Places.{listed-filled, pushed-count, refilled}
-use Rattle.content.proofs.Reader.{found-all, found-one, found-refused, took-none, took-item, took-four}
+use Rattle.content.proofs.Places.{listed-filled, put-item, refilled}
+use Rattle.content.proofs.Reader.{found-all, found-one, found-refused, took-none, took-number, took-item, took-four}
 use Rattle.content.proofs.read.read_rest.Reads as reads
 use Rattle.content.proofs.read.read_rest.Kinds as kinds
 use Rattle.content.proofs.read.+read_rest.Lts-read_rest as lts
-use Rattle.content.proofs.items.Items.pushed.Reads as pushed
-use Rattle.content.proofs.read.Reading.refused.Reads as refused
 use Rattle.content.proofs.rest.Rest.is_zero.Reads as is-zero
 use Rattle.content.proofs.rest.Rest.take_item.Reads as take-item
 use Rattle.content.proofs.read.+read_rest.{statement}
 use Rattle.content.proofs.read.+read_rest.Tie.{close}
 
-abbrev μ : Measures 0 kinds.ps ℕ
+abbrev μ : Measures 2 kinds.ps ℕ
 μ κs a = a .0 .left
 
-abbrev at-measure : ℕ → In 0 kinds.ps
-at-measure t = and 0 kinds.ps (is 0 kinds.ps μ t) reads.Pre
+abbrev at-measure : ℕ → In 2 kinds.ps
+at-measure t = and 2 kinds.ps (is 2 kinds.ps μ t) reads.Pre
 
 -- what the callees ask and ensure; a call of itself asks a smaller measure besides
 abbrev callees : ℕ → lts.Claims
@@ -41,12 +37,8 @@ callees t = (
   is-zero.Learnt,
   take-item.Asked,
   take-item.Learnt,
-  pushed.Asked,
-  pushed.Learnt,
-  and 0 kinds.ps (falls 0 kinds.ps _<_ μ t) reads.Pre,
+  and 2 kinds.ps (falls 2 kinds.ps _<_ μ t) reads.Pre,
   reads.Post,
-  refused.Asked,
-  refused.Learnt,
 )
 
 module _ (t : ℕ) where
@@ -54,11 +46,13 @@ module _ (t : ℕ) where
   is-zero-requires c κs = omega arith
 
   returns : lts.Need-returns (callees t) (at-measure t) reads.Post
-  unfolding readingOf
+  unfolding Told
   returns c =
       let a = c .before .before .args in
+      let p = c .before .before .pre .1 in
+      let found = held (a .count .now) (a .cells .now) in
       let z : allZero (remaining (a .rest)) ≡ true = sym (c .before .is-zero .ensures) ∙ c .if1 .taken in
-      sym (ap readingOf (found-all (listed (a .found)) (remaining (a .rest)) z) ∙ ap (λ (s : Items). let r : Reading = record { answer = readAnswer.Read; items = s } in r) (c .before .before .pre .1 .1))
+      (p .0, subst (λ (x : Reading). Told x 0 found) (sym (found-all (listed found) (remaining (a .rest)) z)) (refl, sym (p .2)))
 
   take-item-requires : lts.Need-take-item-requires (callees t) (at-measure t) reads.Post
   take-item-requires c κs = omega arith
@@ -66,48 +60,82 @@ module _ (t : ℕ) where
   enum-known-item : lts.Need-enum-known-item (callees t) (at-measure t) reads.Post
   enum-known-item c = search needs
 
-  pushed-requires : lts.Need-pushed-requires (callees t) (at-measure t) reads.Post
-  pushed-requires c κs =
-      let d = c .before .before .before in
+  mul-cells : lts.Need-mul-cells (callees t) (at-measure t) reads.Post
+  mul-cells c = omega arith
+
+  mul-cells-2 : lts.Need-mul-cells-2 (callees t) (at-measure t) reads.Post
+  mul-cells-2 c = omega arith
+
+  element-write-cells : lts.Need-element-write-cells (callees t) (at-measure t) reads.Post
+  element-write-cells c =
+      let d = c .before .before .before .before in
       let a = d .before .before .before .args in
-      let x = c .before .item .given in
+      let x = c .before .before .item .given in
       let four = took-four (a .rest) (d .take-item .result) (d .take-item .ensures .0) (x .0 .0) (x .0 .1 .0) (x .1) (omega arith) (d .take-item .ensures .1) in
-      (omega arith, d .before .before .before .pre .1 .1)
+      omega arith
+
+  mul-cells-3 : lts.Need-mul-cells-3 (callees t) (at-measure t) reads.Post
+  mul-cells-3 c = omega arith
+
+  add-cells : lts.Need-add-cells (callees t) (at-measure t) reads.Post
+  add-cells c = omega arith
+
+  mul-cells-4 : lts.Need-mul-cells-4 (callees t) (at-measure t) reads.Post
+  mul-cells-4 c = omega arith
+
+  element-write-cells-2 : lts.Need-element-write-cells-2 (callees t) (at-measure t) reads.Post
+  element-write-cells-2 c =
+      let d = c .before .before .before .before in
+      let a = d .before .before .before .args in
+      let x = c .before .before .item .given in
+      let four = took-four (a .rest) (d .take-item .result) (d .take-item .ensures .0) (x .0 .0) (x .0 .1 .0) (x .1) (omega arith) (d .take-item .ensures .1) in
+      omega arith
+
+  add-count : lts.Need-add-count (callees t) (at-measure t) reads.Post
+  add-count c = omega arith
 
   read-rest-requires : lts.Need-read-rest-requires (callees t) (at-measure t) reads.Post
   read-rest-requires c κs =
-      let d = c .before .before .before .before in
+      let d = c .before .before .before .before .before .before in
       let a = d .before .before .before .args in
-      let p = d .before .before .before .pre in
-      let x = c .before .before .item .given in
+      let p = d .before .before .before .pre .1 in
+      let x = c .before .before .before .before .item .given in
+      let n = a .count .now in
+      let cells = a .cells .now in
       let four = took-four (a .rest) (d .take-item .result) (d .take-item .ensures .0) (x .0 .0) (x .0 .1 .0) (x .1) (omega arith) (d .take-item .ensures .1) in
-      let e : c .pushed .result ≡ filled (listed (a .found) ++ (x .0 .0 ∷ [])) = c .pushed .ensures in
-      let n : c .pushed .result .count ≡ a .found .count + 1 = pushed-count (a .found) (x .0 .0) (c .pushed .result) (p .1 .1) e in
-      (omega arith, (omega arith, refilled (listed (a .found) ++ (x .0 .0 ∷ [])) (c .pushed .result) e))
+      let put = put-item n cells (x .0 .0) (omega arith) (omega arith) (p .2) in
+      (omega arith, (length-set (set cells (2 * n) (x .0 .0 .label)) (2 * n + 1) (x .0 .0 .value) ∙ length-set cells (2 * n) (x .0 .0 .label) ∙ p .0, omega arith, refilled (listed (held n cells) ++ (x .0 .0 ∷ [])) _ put))
 
   enum-known-n : lts.Need-enum-known-n (callees t) (at-measure t) reads.Post
   enum-known-n c = search needs
 
-  refused-requires : lts.Need-refused-requires (callees t) (at-measure t) reads.Post
-  refused-requires c κs = tt
-
   returns-2 : lts.Need-returns-2 (callees t) (at-measure t) reads.Post
   returns-2 c =
-      let d = c .before .before .before .before .before in
+      let d = c .before .before .before .before .before .before .before in
       let a = d .before .before .before .args in
-      let x = c .before .before .before .item .given in
+      let p = d .before .before .before .pre .1 in
+      let x = c .before .before .before .before .before .item .given in
+      let n = a .count .now in
+      let cells = a .cells .now in
+      let found = listed (held n cells) in
+      let four = took-four (a .rest) (d .take-item .result) (d .take-item .ensures .0) (x .0 .0) (x .0 .1 .0) (x .1) (omega arith) (d .take-item .ensures .1) in
+      let put = put-item n cells (x .0 .0) (omega arith) (omega arith) (p .2) in
       let z : allZero (remaining (a .rest)) ≡ false = sym (d .before .before .is-zero .ensures) ∙ d .before .if1 .left in
-      let more = found-one (listed (a .found)) (remaining (a .rest)) (x .0 .0) (remaining (x .0 .1 .0)) z (took-item (a .rest) (d .take-item .result) (d .take-item .ensures .0) (x .0 .0) (x .0 .1 .0) (x .1)) in
-      let now = ap listed (c .before .pushed .ensures) ∙ listed-filled (listed (a .found) ++ (x .0 .0 ∷ [])) in
-      c .read-rest .ensures ∙ ap readingOf (ap (λ (l : List Item). appended l (items (remaining (x .0 .1 .0)))) now ∙ sym more)
+      let more = found-one found (remaining (a .rest)) (x .0 .0) (remaining (x .0 .1 .0)) z (took-item (a .rest) (d .take-item .result) (d .take-item .ensures .0) (x .0 .0) (x .0 .1 .0) (x .1)) in
+      let now = ap listed put ∙ listed-filled (found ++ (x .0 .0 ∷ [])) in
+      (c .read-rest .ensures .0, subst (λ (y : Reading). Told y (c .read-rest .result) (held (c .read-rest .last .1 .0) (c .read-rest .last .1 .1 .0))) (ap (λ (l : List Item). appended l (items (remaining (x .0 .1 .0)))) now ∙ sym more) (c .read-rest .ensures .1))
 
   returns-3 : lts.Need-returns-3 (callees t) (at-measure t) reads.Post
+  unfolding Told
   returns-3 c =
-      let d = c .before .before .before .before in
+      let d = c .before .before .before in
       let a = d .before .before .before .args in
-      let x = c .before .before .n .given in
+      let p = d .before .before .before .pre .1 in
+      let x = c .before .n .given in
+      let found = held (a .count .now) (a .cells .now) in
       let z : allZero (remaining (a .rest)) ≡ false = sym (d .before .before .is-zero .ensures) ∙ d .before .if1 .left in
-      c .refused .ensures ∙ ap readingOf (sym (found-refused (listed (a .found)) (remaining (a .rest)) (x .0 .0) z (took-none (a .rest) (d .take-item .result) (d .take-item .ensures .0) (x .0 .0) (x .1))))
+      let e = found-refused (listed found) (remaining (a .rest)) (x .0 .0) z (took-none (a .rest) (d .take-item .result) (d .take-item .ensures .0) (x .0 .0) (x .1)) in
+      (p .0, subst (λ (y : Reading). Told y (x .0 .0) found) (sym e) (refl, took-number (a .rest) (d .take-item .result) (d .take-item .ensures .0) (x .0 .0) (x .1)))
 
 pub +read-rest-spec : {M : Type 1} → statement M
 +read-rest-spec = close μ λ t. lts.spec (callees t) (at-measure t) reads.Post
@@ -115,9 +143,15 @@ pub +read-rest-spec : {M : Type 1} → statement M
     (returns t)
     (take-item-requires t)
     (enum-known-item t)
-    (pushed-requires t)
+    (mul-cells t)
+    (mul-cells-2 t)
+    (element-write-cells t)
+    (mul-cells-3 t)
+    (add-cells t)
+    (mul-cells-4 t)
+    (element-write-cells-2 t)
+    (add-count t)
     (read-rest-requires t)
     (enum-known-n t)
-    (refused-requires t)
     (returns-2 t)
     (returns-3 t)
