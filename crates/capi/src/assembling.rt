@@ -5,11 +5,11 @@ ghost use lib.ListN.{length};
 ghost use Rattle.cells.specs.Written.{written};
 ghost use Rattle.capi.specs.Assembling.{numberOf, answerCells, stepNumber, stateAfter, answerAfter};
 use assembler::Answer;
+use assembler::Step;
 use cells::array::put;
 use cells::assemblers::assembler_cells;
 use cells::assemblers::assembler_from;
 use cells::reports::report_cells;
-use report::Report;
 
 // Takes a word into the assembler, and answers.
 #[no_mangle]
@@ -22,16 +22,15 @@ pub extern "C" fn alertc_assembler_step(state: &mut [u64], word: u64, answer: &m
         return 15;
     }
     let step = assembler_from(state).step(word);
-    let next = step.next;
     let said = step.answer;
-    let report = step.report;
     let refused = number(said);
     if refused == 9 {
         return 9;
     }
+    let next = step.next;
     let cells = assembler_cells(next);
     put(&cells, 0, state);
-    put_answer(said, report, answer);
+    put_answer(step, answer);
     refused
 }
 
@@ -48,15 +47,17 @@ fn number(answer: Answer) -> u8
     }
 }
 
-// Puts the cells of an answer into the first cells of an array.
-fn put_answer(answer: Answer, report: Report, out: &mut [u64])
+// Puts the cells of a step's answer into the first cells of an array.
+fn put_answer(step: Step, out: &mut [u64])
     requires { ⌜ 65 ≤ length (now out) ⌝ }
-    ensures { λ _. ⌜ now (out .exit) ≡ written (answerCells answer report) (now (out .entry)) ⌝ }
+    ensures { λ _. ⌜ now (out .exit) ≡ written (answerCells (step .answer) (step .report)) (now (out .entry)) ⌝ }
 {
+    let answer = step.answer;
     match answer {
         Answer::Nothing => out[0] = 0,
         Answer::Report => {
             out[0] = 1;
+            let report = step.report;
             let cells = report_cells(report);
             put(&cells, 1, out);
         }

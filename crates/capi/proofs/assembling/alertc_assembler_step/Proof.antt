@@ -42,12 +42,12 @@ same-length c = search needs
 
 returns-2 : tie.Need-returns-2
 returns-2 c =
-    let a = c .before .before .before .before .before .before .before .before .before .args in
+    let a = c .before .before .before .before .before .before .before .before .args in
     let s = a .state .now in
     let out = a .answer .now in
-    let stepped = c .before .before .before .step .ensures ∙ ap (λ (x : Assembler). stepOf x (a .word)) (c .before .before .before .before .assembler-from .ensures) in
+    let stepped = c .before .before .step .ensures ∙ ap (λ (x : Assembler). stepOf x (a .word)) (c .before .before .before .assembler-from .ensures) in
     let same = ap (λ (x : Step). numberOf (x .answer)) stepped in
-    unfit s (a .word) out (c .before .before .before .before .before .before .if1 .left) (sym (c .before .number .ensures ∙ same) ∙ c .if2 .taken)
+    unfit s (a .word) out (c .before .before .before .before .before .if1 .left) (sym (c .before .number .ensures ∙ same) ∙ c .if2 .taken)
 
 assembler-cells-requires : tie.Need-assembler-cells-requires
 assembler-cells-requires c κs = search needs
@@ -57,13 +57,13 @@ slice-aggregate-put c = search needs
 
 put-requires : tie.Need-put-requires
 put-requires c κs =
-    let a = c .before .before .before .before .before .before .before .before .before .before .before .before .args in
-    omega (arith, c .before .before .assembler-cells .ensures .1, roomy-left (length (a .state .now)) (length (a .answer .now)) 11 65 (c .before .before .before .before .before .before .before .before .before .if1 .left))
+    let a = c .before .before .before .before .before .before .before .before .before .before .before .args in
+    omega (arith, c .before .before .assembler-cells .ensures .1, roomy-left (length (a .state .now)) (length (a .answer .now)) 11 65 (c .before .before .before .before .before .before .before .before .if1 .left))
 
 put-answer-requires : tie.Need-put-answer-requires
 put-answer-requires c κs =
-    let a = c .before .before .before .before .before .before .before .before .before .before .before .before .before .before .before .before .args in
-    roomy-right (length (a .state .now)) (length (a .answer .now)) 11 65 (c .before .before .before .before .before .before .before .before .before .before .before .before .before .if1 .left)
+    let a = c .before .before .before .before .before .before .before .before .before .before .before .before .before .before .before .args in
+    roomy-right (length (a .state .now)) (length (a .answer .now)) 11 65 (c .before .before .before .before .before .before .before .before .before .before .before .before .if1 .left)
 
 same-length-2 : tie.Need-same-length-2
 same-length-2 c = search needs
@@ -73,12 +73,12 @@ same-length-3 c = search needs
 
 returns-3 : tie.Need-returns-3
 returns-3 c =
-    let a = c .before .before .before .before .before .before .before .before .before .before .before .before .before .before .before .before .before .before .before .args in
+    let a = c .before .before .before .before .before .before .before .before .before .before .before .before .before .before .before .before .before .before .args in
     let s = a .state .now in
     let out = a .answer .now in
-    let step = c .before .before .before .before .before .before .before .before .before .before .before .before .before .step .ensures ∙ ap (λ (x : Assembler). stepOf x (a .word)) (c .before .before .before .before .before .before .before .before .before .before .before .before .before .before .assembler-from .ensures) in
+    let step = c .before .before .before .before .before .before .before .before .before .before .before .before .step .ensures ∙ ap (λ (x : Assembler). stepOf x (a .word)) (c .before .before .before .before .before .before .before .before .before .before .before .before .before .assembler-from .ensures) in
     let number = c .before .before .before .before .before .before .before .before .before .before .before .number .ensures ∙ ap (λ (x : Step). numberOf (x .answer)) step in
-    let all = stepped s (a .word) out (c .before .before .before .before .before .before .before .before .before .before .before .before .before .before .before .before .if1 .left) (λ h. c .before .before .before .before .before .before .before .before .before .before .if2 .left (number ∙ h)) in (
+    let all = stepped s (a .word) out (c .before .before .before .before .before .before .before .before .before .before .before .before .before .before .before .if1 .left) (λ h. c .before .before .before .before .before .before .before .before .before .before .if2 .left (number ∙ h)) in (
       number ∙ all .0,
       (
         c .before .before .before .before .before .before .put .ensures

@@ -64,7 +64,7 @@ unfolding answerCells
 returns c =
     let s = c .before .before .before in
     let out = s .args .out .now in
-    stored (0 ∷ []) out (omega arith) ∙ sym (ap (λ (a : Answer). written (answerCells a (s .args .report)) out) (c .enum-told .given .1))
+    stored (0 ∷ []) out (omega arith) ∙ sym (ap (λ (a : Answer). written (answerCells a (s .args .step .report)) out) (c .enum-told .given .1))
 
 same-length-2 : tie.Need-same-length-2
 same-length-2 c = c .before .before .put .kept .1 .1 .0 ∙ simp length-set
@@ -72,13 +72,13 @@ same-length-2 c = c .before .before .put .kept .1 .1 .0 ∙ simp length-set
 returns-2 : tie.Need-returns-2
 unfolding answerCells
 returns-2 c =
-    let s = c .before .before .before .before .before .before .before .before .before in
+    let s = c .before .before .before .before .before .before .before .before .before .before in
     let out = s .args .out .now in
     let one : 1 ≤ length out = omega arith in
     c .before .before .put .ensures
     ∙ ap₂ (λ (x y : List ℕ). writtenAt 1 x y) (c .before .before .before .before .before .report-cells .ensures .0) (stored (1 ∷ []) out one)
-    ∙ put-after (1 ∷ []) (reportCells (s .args .report)) out one
-    ∙ sym (ap (λ (a : Answer). written (answerCells a (s .args .report)) out) (c .before .before .before .before .before .before .enum-told2 .given .1))
+    ∙ put-after (1 ∷ []) (reportCells (s .args .step .report)) out one
+    ∙ sym (ap (λ (a : Answer). written (answerCells a (s .args .step .report)) out) (c .before .before .before .before .before .before .before .enum-told2 .given .1))
 
 same-length-3 : tie.Need-same-length-3
 same-length-3 c = search needs
@@ -88,7 +88,7 @@ unfolding answerCells
 returns-3 c =
     let s = c .before .before .before .before in
     let out = s .args .out .now in
-    stored (2 ∷ _ ∷ []) out (omega arith) ∙ sym (ap (λ (a : Answer). written (answerCells a (s .args .report)) out) (c .before .answer .given .1))
+    stored (2 ∷ _ ∷ []) out (omega arith) ∙ sym (ap (λ (a : Answer). written (answerCells a (s .args .step .report)) out) (c .before .answer .given .1))
 
 same-length-4 : tie.Need-same-length-4
 same-length-4 c = search needs
@@ -98,14 +98,14 @@ unfolding answerCells
 returns-4 c =
     let s = c .before .before .before .before in
     let out = s .args .out .now in
-    stored (3 ∷ _ ∷ []) out (omega arith) ∙ sym (ap (λ (a : Answer). written (answerCells a (s .args .report)) out) (c .before .answer2 .given .1))
+    stored (3 ∷ _ ∷ []) out (omega arith) ∙ sym (ap (λ (a : Answer). written (answerCells a (s .args .step .report)) out) (c .before .answer2 .given .1))
 
 returns-5 : tie.Need-returns-5
 unfolding answerCells
 returns-5 c =
     let s = c .before .before .before in
     let out = s .args .out .now in
-    sym (nothing-written out) ∙ sym (ap (λ (a : Answer). written (answerCells a (s .args .report)) out) (c .enum-told3 .given .1))
+    sym (nothing-written out) ∙ sym (ap (λ (a : Answer). written (answerCells a (s .args .step .report)) out) (c .enum-told3 .given .1))
 
 pub put-answer-spec : {M : Type 1} → statement M
 put-answer-spec =
