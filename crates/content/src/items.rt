@@ -7,9 +7,10 @@ ghost use Rattle.content.specs.Packing.{lastZero};
 ghost use Rattle.content.specs.Stored.{limit, filled, listed, held, itemsFrom, wellPlaced};
 use crate::item::Item;
 
+// The places stand first: a copy of them then goes piece by piece as they were written.
 pub struct Items {
-    pub count: usize,
     pub places: [Item; Items::LIMIT],
+    pub count: usize,
 }
 
 impl Items {

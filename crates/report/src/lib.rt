@@ -15,11 +15,11 @@ pub enum Form {
 
 // What a message says. Its items are by value, at most 28, and unused places are zero.
 pub struct Report {
-    pub form: Form,
+    pub items: Items,
     pub head: Head,
     pub diversion: u8,
     pub duration: u8,
-    pub items: Items,
+    pub form: Form,
 }
 
 // Whether there is a report.

@@ -70,7 +70,7 @@ loop-again c =
     let l = c .before .before .before .before .loop in
     let s = c .before .before .before .before .before in
     let places = s .args .t1 .places in
-    let n : length places ≡ limit = sym (length-map places _) ∙ s .good .0 .1 .1 .1 .0 .1 .0 .1 in
+    let n : length places ≡ limit = sym (length-map places _) ∙ s .good .0 .1 .1 .0 .1 .0 .1 in
     let h : l .i < length places = omega arith in
     let m : 9 + 2 * l .i < length (l .cells) = omega arith in (
       omega arith,
@@ -83,7 +83,7 @@ returns c =
     let l = c .before .loop in
     let s = c .before .before in
     let places = s .args .t1 .places in
-    let n : length places ≡ limit = sym (length-map places _) ∙ s .good .0 .1 .1 .1 .0 .1 .0 .1 in
+    let n : length places ≡ limit = sym (length-map places _) ∙ s .good .0 .1 .1 .0 .1 .0 .1 in
     let all : length places ≤ l .i = omega arith in
     let whole : length (l .cells) ≤ 8 + 2 * l .i = omega arith in
     (sym (take-all (8 + 2 * l .i) (l .cells) whole) ∙ l .inv .2 ∙ ap (λ (p : List Item). take 8 (s .args .t2) ++ itemCells p) (take-all (l .i) places all), l .inv .1)

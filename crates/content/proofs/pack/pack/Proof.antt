@@ -60,7 +60,7 @@ loop-holds c =
     let d = c .before .before .before .before in
     let s = d .before .args .t1 in
     let h = wellPlaced-count s (sym (d .well-placed .ensures) ∙ not-false (d .well-placed .result) (c .before .before .before .if1 .left)) in
-    let n : length (s .places) ≡ limit = sym (length-map (s .places) _) ∙ d .before .good .0 .1 .1 .1 .0 .1 .0 .1 in
+    let n : length (s .places) ≡ limit = sym (length-map (s .places) _) ∙ d .before .good .0 .1 .1 .0 .1 .0 .1 in
     let e : drop (s .count) (listed s) ≡ [] = ap (λ (i : ℕ). drop i (listed s)) (sym (length-listed s n h)) ∙ drop-length (listed s) in
     (omega arith, h, c .new .ensures ∙ sym (ap (λ (its : List Item). packedIf (packable its) its) e))
 
@@ -85,7 +85,7 @@ loop-again c =
     let d = c .before .before .before .before .before .before .before .before in
     let s = d .before .args .t1 in
     let j = l .i - 1 in
-    let n : length (s .places) ≡ limit = sym (length-map (s .places) _) ∙ d .before .good .0 .1 .1 .1 .0 .1 .0 .1 in
+    let n : length (s .places) ≡ limit = sym (length-map (s .places) _) ∙ d .before .good .0 .1 .1 .0 .1 .0 .1 in
     let i : l .i ≡ suc j = omega arith in
     let e : getD (s .places) j noItem ∷ drop (l .i) (listed s) ≡ drop j (listed s) =
     ap (λ (k : ℕ). getD (s .places) j noItem ∷ drop k (listed s)) i ∙ listed-cons s n (l .inv .1) j (omega arith) in

@@ -30,7 +30,7 @@ element-copy-out-item c = omega arith
 returns : tie.Need-returns Inv-loop μ-loop
 returns c =
     let s = c .before .before .before .before .before .before .args .t1 in
-    let long : length (s .places) ≡ 28 = sym (length-map (s .places) _) ∙ c .before .before .before .before .before .before .good .0 .1 .1 .1 .0 .1 .0 .1 in
+    let long : length (s .places) ≡ 28 = sym (length-map (s .places) _) ∙ c .before .before .before .before .before .before .good .0 .1 .1 .0 .1 .0 .1 in
     sym (c .before .before .before .before .before .loop .inv .1 ∙ found-here isDiversion (λ i. 1) s (omega arith) (c .before .before .before .before .before .loop .i) (c .before .before .before .before .loop-test .taken) (c .if1 .taken))
 
 add-i : tie.Need-add-i Inv-loop μ-loop
@@ -42,13 +42,13 @@ loop-less c = omega arith
 loop-again : tie.Need-loop-again Inv-loop μ-loop
 loop-again c =
     let s = c .before .before .before .before .before .before .args .t1 in
-    let long : length (s .places) ≡ 28 = sym (length-map (s .places) _) ∙ c .before .before .before .before .before .before .good .0 .1 .1 .1 .0 .1 .0 .1 in
+    let long : length (s .places) ≡ 28 = sym (length-map (s .places) _) ∙ c .before .before .before .before .before .before .good .0 .1 .1 .0 .1 .0 .1 in
     (omega arith, rw add-one (c .before .before .before .before .before .loop .inv .1 ∙ not-here isDiversion (λ i. 1) s (omega arith) (c .before .before .before .before .before .loop .i) (c .before .before .before .before .loop-test .taken) (c .if1 .left)))
 
 returns-2 : tie.Need-returns-2 Inv-loop μ-loop
 returns-2 c =
     let s = c .before .before .args .t1 in
-    let long : length (s .places) ≡ 28 = sym (length-map (s .places) _) ∙ c .before .before .good .0 .1 .1 .1 .0 .1 .0 .1 in
+    let long : length (s .places) ≡ 28 = sym (length-map (s .places) _) ∙ c .before .before .good .0 .1 .1 .0 .1 .0 .1 in
     sym (c .before .loop .inv .1 ∙ not-found isDiversion (λ i. 1) s (omega arith) (c .before .loop .i) (c .loop-test .left))
 
 pub diversion-spec : {M : Type 1} → statement M

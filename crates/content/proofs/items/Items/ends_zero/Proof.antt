@@ -29,7 +29,7 @@ is-zero-requires c κs = search needs
 returns-2 : tie.Need-returns-2
 returns-2 c =
     let s = c .before .before .before .args .t1 in
-    let n : length (s .places) ≡ limit = sym (length-map (s .places) _) ∙ c .before .before .before .good .0 .1 .1 .1 .0 .1 .0 .1 in
+    let n : length (s .places) ≡ limit = sym (length-map (s .places) _) ∙ c .before .before .before .good .0 .1 .1 .0 .1 .0 .1 in
     let h : s .count ≤ limit = omega arith in
     let k : length (listed s) ≡ suc (s .count - 1) = let e = length-listed s n h in omega arith in
     c .is-zero .ensures ∙ ap zeroItem (sym (listed-at s n h (s .count - 1) (omega arith))) ∙ sym (lastZero-at (listed s) (s .count - 1) k)

@@ -41,7 +41,7 @@ unfolding wellPlaced
 returns-2 c =
     let s = c .before .before .before .before .before .before .args .t1 in
     let l = c .before .before .before .before .loop in
-    let n : length (s .places) ≡ limit = sym (length-map (s .places) _) ∙ c .before .before .before .before .before .before .good .0 .1 .1 .1 .0 .1 .0 .1 in
+    let n : length (s .places) ≡ limit = sym (length-map (s .places) _) ∙ c .before .before .before .before .before .before .good .0 .1 .1 .0 .1 .0 .1 in
     sym (ap₂ _&&_ (le-leb (s .count) limit (l .inv .1)) (l .inv .2 ∙ allZeroItems-at (s .places) (l .i) (omega arith))
     ∙ ap (λ (b : Bool). b && allZeroItems (drop (suc (l .i)) (s .places))) (sym (c .before .is-zero .ensures) ∙ not-true (c .before .is-zero .result) (c .if2 .taken)))
 
@@ -55,7 +55,7 @@ loop-again : tie.Need-loop-again Inv-loop μ-loop
 loop-again c =
     let s = c .before .before .before .before .before .before .args .t1 in
     let l = c .before .before .before .before .loop in
-    let n : length (s .places) ≡ limit = sym (length-map (s .places) _) ∙ c .before .before .before .before .before .before .good .0 .1 .1 .1 .0 .1 .0 .1 in (
+    let n : length (s .places) ≡ limit = sym (length-map (s .places) _) ∙ c .before .before .before .before .before .before .good .0 .1 .1 .0 .1 .0 .1 in (
       omega arith,
       l .inv .1,
       rw add-one (l .inv .2
@@ -69,7 +69,7 @@ returns-3 c =
     let s = c .before .before .before .args .t1 in
     let l = c .before .loop in
     let n : l .i ≡ length (s .places) =
-    let g : length (s .places) ≡ limit = sym (length-map (s .places) _) ∙ c .before .before .before .good .0 .1 .1 .1 .0 .1 .0 .1 in
+    let g : length (s .places) ≡ limit = sym (length-map (s .places) _) ∙ c .before .before .before .good .0 .1 .1 .0 .1 .0 .1 in
     omega arith in
     sym (ap₂ _&&_ (le-leb (s .count) limit (l .inv .1)) (l .inv .2 ∙ ap (λ (i : ℕ). allZeroItems (drop i (s .places))) n ∙ ap allZeroItems (drop-length (s .places))))
 
