@@ -1,12 +1,13 @@
 -- The ways out of the functions on a record.
-use Prim.Native.Nat.{ℕ, _≤_}
+use Prim.Native.Nat.{ℕ, _≤_, _<_}
 use mathlib.Core.Path.{_≡_, refl, sym, ap, _∙_}
-use mathlib.Core.Bool.{Bool, true, false, cond, _&&_}
+use mathlib.Core.Bool.{Bool, true, false, cond, not, _&&_}
 use mathlib.Core.List.{List}
 use native.Mathlib.Omega.{arith}
 use lib.ListN.{length, take}
 use lib.Seq.{take-take}
-use borrow.Author.Tests.{eq-eqb, ne-eqb}
+use lib.Dec.{leb}
+use borrow.Author.Tests.{eq-eqb, ne-eqb, le-leb, lt-leb}
 use Rattle.bits.specs.Bits.{num}
 use Rattle.bits.specs.Fields.{flat}
 use Rattle.bits.proofs.Choice.{chosen, passed-over}
@@ -22,9 +23,9 @@ use Rattle.record.specs.declared.Key.{Key}
 use Rattle.record.specs.declared.Rule.{Rule}
 use Rattle.record.specs.declared.Rule.the-variants.{Expired, Matching}
 use Rattle.record.specs.declared.Answer.the-variants.{Free, Read, Refused}
-use Rattle.record.specs.Layout.{recordSize, freeRecord, byteAt, groupsIn, headIn, durationIn, diversionIn, contentIn, serviceIn, expiryIn}
+use Rattle.record.specs.Layout.{recordSize, freeRecord, byteAt, isFree, groupsIn, headIn, durationIn, diversionIn, contentIn, serviceIn, expiryIn}
 use Rattle.record.specs.WellFormed.{contentBits}
-use Rattle.record.specs.Rules.{falls, fallsOne, freedIf}
+use Rattle.record.specs.Rules.{sameKey, falls, fallsOne, freedIf}
 use Rattle.record.specs.Reads.{messageIn, nothing, answered, readingIn}
 
 -- freeing one record
@@ -70,15 +71,45 @@ module _ (first second : Rule) (r : List ℕ) (e : length r ≡ recordSize) wher
   pub two-freed : freedIf (fallsOne second) (freedIf (fallsOne first) r) ≡ freedIf (falls second) (freedIf (falls first) r)
   two-freed = ap (freedIf (fallsOne second)) (one-freed first r e) ∙ one-freed second after length-after
 
--- a record that has expired is not freed once more
-pub freed-once : (minute : ℕ) (key : Key) (r : List ℕ) → (fallsOne (Expired minute) r ≡ false → ⊥)
-    → (0 ≡ num (fallsOne (Matching key) (freedIf (fallsOne (Expired minute)) r))) × (freedIf (fallsOne (Expired minute)) r ≡ freedIf (fallsOne (Matching key)) (freedIf (fallsOne (Expired minute)) r))
-unfolding freedIf num fallsOne falls
-freed-once minute key r h = by-test (fallsOne (Expired minute) r) refl
-  where
-    by-test : (b : Bool) → fallsOne (Expired minute) r ≡ b → (0 ≡ num (fallsOne (Matching key) (freedIf (fallsOne (Expired minute)) r))) × (freedIf (fallsOne (Expired minute)) r ≡ freedIf (fallsOne (Matching key)) (freedIf (fallsOne (Expired minute)) r))
-    by-test true e = let free : freedIf (fallsOne (Expired minute)) r ≡ freeRecord = chosen _ _ _ e in (sym (ap (λ (x : List ℕ). num (fallsOne (Matching key) x)) free), free ∙ sym (ap (freedIf (fallsOne (Matching key))) free))
-    by-test false e = absurd (h e)
+-- what the two rules make of bytes, one after the other
+module _ (minute : ℕ) (key : Key) (r : List ℕ) where
+  abbrev pub Went : (expired matched : ℕ) → List ℕ → Type 0
+  Went expired matched out =
+      ((expired ≡ num (fallsOne (Expired minute) r)) × (matched ≡ num (fallsOne (Matching key) (freedIf (fallsOne (Expired minute)) r))))
+      × (out ≡ freedIf (fallsOne (Matching key)) (freedIf (fallsOne (Expired minute)) r))
+
+  pub went-expired : fallsOne (Expired minute) r ≡ true → Went 1 0 freeRecord
+  unfolding freedIf num fallsOne falls
+  went-expired e =
+      let free : freedIf (fallsOne (Expired minute)) r ≡ freeRecord = chosen _ _ _ e in
+      ((sym (ap num e), sym (ap (λ (x : List ℕ). num (fallsOne (Matching key) x)) free)), sym (ap (freedIf (fallsOne (Matching key))) free))
+
+  pub went-second : (b : Bool) → fallsOne (Expired minute) r ≡ false → fallsOne (Matching key) r ≡ b → Went 0 (num b) (cond b freeRecord r)
+  unfolding freedIf num
+  went-second b e f =
+      let kept : freedIf (fallsOne (Expired minute)) r ≡ r = passed-over _ _ _ e in
+      ((sym (ap num e), sym (ap (λ (x : List ℕ). num (fallsOne (Matching key) x)) kept ∙ ap num f)), sym (ap (freedIf (fallsOne (Matching key))) kept ∙ ap (λ (x : Bool). cond x freeRecord r) f))
+
+  -- by the tests of the code
+  module _ (e : length r ≡ recordSize) where
+    pub went-free : byteAt r 0 ≡ 0 → Went 0 0 r
+    unfolding falls num
+    went-free f =
+        let free : (b : Bool) → not (isFree r) && b ≡ false = λ b. ap (λ (x : Bool). not x && b) (eq-eqb (byteAt r 0) 0 f) in
+        went-second false (one-record (Expired minute) r e ∙ free (leb (expiryIn r) minute)) (one-record (Matching key) r e ∙ free (sameKey key r))
+
+    module _ (f : byteAt r 0 ≡ 0 → ⊥) where
+      used : (b : Bool) → not (isFree r) && b ≡ b
+      used b = ap (λ (x : Bool). not x && b) (ne-eqb (byteAt r 0) 0 f)
+
+      pub went-ended : expiryIn r ≤ minute → Went 1 0 freeRecord
+      unfolding falls
+      went-ended h = went-expired (one-record (Expired minute) r e ∙ used (leb (expiryIn r) minute) ∙ le-leb (expiryIn r) minute h)
+
+      pub went-matched : (b : Bool) → minute < expiryIn r → sameKey key r ≡ b → Went 0 (num b) (cond b freeRecord r)
+      unfolding falls
+      went-matched b h g =
+          went-second b (one-record (Expired minute) r e ∙ used (leb (expiryIn r) minute) ∙ lt-leb (expiryIn r) minute h) (one-record (Matching key) r e ∙ used (sameKey key r) ∙ g)
 
 -- the message of a record by its groups
 module _ (r : List ℕ) where

@@ -91,14 +91,26 @@ pub fn free_gone(r: &mut [u8], minute: u32, key: Key) -> Freed
     ensures { λ f. ⌜ (f .expired ≡ num (fallsOne (Expired minute) (now (r .entry)))) × (f .matched ≡ num (fallsOne (Matching key) (freedIf (fallsOne (Expired minute)) (now (r .entry))))) ⌝ }
     ensures { λ _. ⌜ now (r .exit) ≡ freedIf (fallsOne (Matching key)) (freedIf (fallsOne (Expired minute)) (now (r .entry))) ⌝ }
 {
-    let expired = free_if(r, Rule::Expired(minute));
-    if expired != 0 {
-        return Freed {
-            expired,
-            matched: 0,
-        };
+    if r.len() != Record::SIZE {
+        return freed(0, 0);
     }
-    let matched = free_if(r, Rule::Matching(key));
+    if r[0] == 0 {
+        return freed(0, 0);
+    }
+    if expiry(r) <= minute {
+        clear(r);
+        return freed(1, 0);
+    }
+    if same_key(r, key) {
+        clear(r);
+        return freed(0, 1);
+    }
+    freed(0, 0)
+}
+
+fn freed(expired: usize, matched: usize) -> Freed
+    ensures { λ f. ⌜ f ≡ record { expired = expired; matched = matched } ⌝ }
+{
     Freed { expired, matched }
 }
 
