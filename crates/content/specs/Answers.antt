@@ -37,7 +37,7 @@ unfoldable pub readingOf : Reading → read.Reading
 readingOf (holds its) = record { answer = readAnswer.Read; items = filled its }
 readingOf (refused n) = record { answer = readAnswer.Refused n; items = filled [] }
 
--- what the reader is told of the items held when it answers a number: 0, or that of the refusal
+-- what the number that reading into cells answers tells of the items then held: 0, they are those read; else it is the refusal's
 unfoldable pub Told : Reading → ℕ → Items → Type 0
 Told (holds its) r s = (r ≡ 0) × (s ≡ filled its)
 Told (refused n) r s = (r ≡ n) × (0 < n)

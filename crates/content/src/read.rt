@@ -49,7 +49,7 @@ pub fn read(c: Content, length: usize) -> Reading
 }
 
 // The items found, and then those of the rest: one item and then the reading of the rest after one item. Answers the refusal's number, or 0.
-// The items stand in cells that are lent, and not in a struct by value: each turn would copy that.
+// The items go into lent cells: a struct by value would be copied at each turn.
 fn read_rest(rest: Rest, count: &mut usize, cells: &mut [u16; Items::CELLS]) -> u8
     requires { ⌜ (length (now cells) ≡ 2 * limit) × (4 * now count + rest .left ≤ longest) × (filled (listed (held (now count) (now cells))) ≡ held (now count) (now cells)) ⌝ }
     ensures { λ _. ⌜ length (now (cells .exit)) ≡ 2 * limit ⌝ }
