@@ -4,6 +4,7 @@ pub mod Bytes
 pub mod Parts
 pub mod Zeros
 pub mod Tested
+pub mod Places
 pub mod Steps
 pub mod Readings
 pub mod Kept

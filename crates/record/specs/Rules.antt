@@ -1,5 +1,5 @@
 -- The records that a call frees (document 01, "The message table"; ISO 14819-1, clauses 6.4 and 6.5).
-use Prim.Native.Nat.{ℕ}
+use Prim.Native.Nat.{ℕ, _+_, _*_}
 use mathlib.Core.Bool.{Bool, cond, not, _&&_}
 use mathlib.Core.List.{List}
 use lib.Dec.{eqb, leb}
@@ -8,6 +8,10 @@ use Rattle.record.specs.declared.Key.{Key}
 use Rattle.record.specs.declared.Rule.{Rule}
 use Rattle.record.specs.declared.Rule.the-variants.{Expired, Matching}
 use Rattle.record.specs.Layout.{isRecord, freeRecord, byteAt, isFree, expiryIn, locationIn, directionIn, classIn}
+
+-- SID, LTN and location as they stand in bytes 2 to 5
+unfoldable pub placeOf : Key → ℕ
+placeOf k = k .service .sid + 0x100 * k .service .ltn + 0x1_0000 * k .location
 
 -- of this service
 unfoldable pub sameService : Service → List ℕ → Bool

@@ -5,12 +5,11 @@ ghost use lib.ListN.{length};
 ghost use Rattle.bits.specs.Bits.{num};
 ghost use Rattle.record.specs.Layout.{recordSize, freeRecord, fourAt, expiryIn, locationIn};
 ghost use Rattle.record.specs.declared.Rule.the-variants.{Expired, Matching};
-ghost use Rattle.record.specs.Rules.{sameKey, sameService, falls, fallsOne, freedIf};
+ghost use Rattle.record.specs.Rules.{placeOf, sameKey, falls, fallsOne, freedIf};
 use crate::Freed;
 use crate::Key;
 use crate::Record;
 use crate::Rule;
-use crate::Service;
 
 // The number that four bytes are, the first one lowest.
 pub(crate) fn four(r: &[u8], at: usize) -> u32
@@ -38,12 +37,12 @@ pub(crate) fn location(r: &[u8]) -> u16
     r[4] as u16 + 0x100 * (r[5] as u16)
 }
 
-// Whether the record is of the service.
-fn same_service(r: &[u8], s: Service) -> bool
-    requires { ⌜ length (now r) ≡ recordSize ⌝ }
-    ensures { λ b. ⌜ b ≡ sameService s (now (r .entry)) ⌝ }
+// SID, LTN and location as a record has them, in one number.
+fn place_of(key: Key) -> u32
+    ensures { λ n. ⌜ n ≡ placeOf key ⌝ }
 {
-    (r[31] == s.country) & ((r[3] == s.ltn) & (r[2] == s.sid))
+    let service = key.service;
+    service.sid as u32 + 0x100 * (service.ltn as u32) + 0x1_0000 * (key.location as u32)
 }
 
 // Whether the record is of the same service, location, direction and update class.
@@ -51,12 +50,12 @@ fn same_key(r: &[u8], key: Key) -> bool
     requires { ⌜ length (now r) ≡ recordSize ⌝ }
     ensures { λ b. ⌜ b ≡ sameKey key (now (r .entry)) ⌝ }
 {
-    if location(r) != key.location {
+    if four(r, 2) != place_of(key) {
         return false;
     }
     let service = key.service;
     let direction = key.direction;
-    same_service(r, service) & ((r[8] == direction) & (r[30] == key.class))
+    (r[31] == service.country) & ((r[8] == direction) & (r[30] == key.class))
 }
 
 // Whether the record is used and the rule frees it.

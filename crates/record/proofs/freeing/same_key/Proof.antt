@@ -1,29 +1,28 @@
--- The location first, and then the other tests.
-use Prim.Native.Nat.{ℕ}
-use mathlib.Core.Path.{_≡_, sym, ap, ap₂, _∙_}
-use mathlib.Core.Bool.{Bool, true, false, _&&_, and-false}
+-- SID, LTN and location at once, and then the other tests.
+use Prim.Native.Nat.{_<_}
+use native.Mathlib.Omega.{arith}
+use mathlib.Core.Path.{sym, ap₂, _∙_}
 use lib.Dec.{eqb}
 use borrow.Author.Tests.{eq-eqb, ne-eqb}
-use Rattle.record.specs.Layout.{locationIn, directionIn, classIn}
-use Rattle.record.specs.Rules.{sameService, sameKey}
+use Rattle.record.proofs.Places.{other-place, same-place}
 use borrow.Author.Needs.{needs}
 use Rattle.record.proofs.freeing.same_key.Statement.{statement}
 use Rattle.record.proofs.freeing.same_key.Tie as tie
 
-location-requires : tie.Need-location-requires
-location-requires c κs = search needs
+four-requires : tie.Need-four-requires
+four-requires c κs = search needs
+
+place-of-requires : tie.Need-place-of-requires
+place-of-requires c κs = search needs
 
 returns : tie.Need-returns
-unfolding sameKey
 returns c =
     let a = c .before .before .before .before .args in
-    let r = a .r .now in
-    let k = a .key in
-    let off : eqb (locationIn r) (k .location) ≡ false = ap (λ (n : ℕ). eqb n (k .location)) (sym (c .before .before .location .ensures)) ∙ ne-eqb (c .before .before .location .result) (k .location) (c .if1 .taken) in
-    sym (ap (λ (b : Bool). sameService (k .service) r && (b && (eqb (directionIn r) (k .direction) && eqb (classIn r) (k .class)))) off ∙ and-false (sameService (k .service) r))
-
-same-service-requires : tie.Need-same-service-requires
-same-service-requires c κs = search needs
+    let sid : a .key .service .sid < 256 = search needs in
+    let ltn : a .key .service .ltn < 256 = search needs in
+    let known = c .before .before .before .shared-slice-known .given in
+    let off = ap₂ eqb (sym (c .before .before .four .ensures)) (sym (c .before .place-of .ensures)) ∙ ne-eqb _ _ (c .if1 .taken) in
+    sym (other-place (a .key) (a .r .now) (omega (arith, known 2)) (omega (arith, known 3)) sid ltn off)
 
 shared-slice-read-result : tie.Need-shared-slice-read-result
 shared-slice-read-result c = search needs
@@ -31,23 +30,26 @@ shared-slice-read-result c = search needs
 shared-slice-read-result-2 : tie.Need-shared-slice-read-result-2
 shared-slice-read-result-2 c = search needs
 
+shared-slice-read-result-3 : tie.Need-shared-slice-read-result-3
+shared-slice-read-result-3 c = search needs
+
 returns-2 : tie.Need-returns-2
-unfolding sameKey
 returns-2 c =
-    let a = c .before .before .before .before .before .before .before .before .before .args in
-    let r = a .r .now in
-    let k = a .key in
-    let n = c .before .before .before .before .before .before .before .location in
-    let on : eqb (locationIn r) (k .location) ≡ true = ap (λ (m : ℕ). eqb m (k .location)) (sym (n .ensures)) ∙ eq-eqb (n .result) (k .location) (c .before .before .before .before .before .if1 .left) in
-    ap₂ (λ (s b : Bool). s && (b && (eqb (directionIn r) (k .direction) && eqb (classIn r) (k .class)))) (c .before .before .before .same-service .ensures) (sym on)
+    let a = c .before .before .before .before .before .before .before .before .before .before .args in
+    let sid : a .key .service .sid < 256 = search needs in
+    let ltn : a .key .service .ltn < 256 = search needs in
+    let known = c .before .before .before .before .before .before .before .before .before .shared-slice-known .given in
+    let on = ap₂ eqb (sym (c .before .before .before .before .before .before .before .before .four .ensures)) (sym (c .before .before .before .before .before .before .before .place-of .ensures)) ∙ eq-eqb _ _ (c .before .before .before .before .before .before .if1 .left) in
+    sym (same-place (a .key) (a .r .now) (omega (arith, known 2)) (omega (arith, known 3)) sid ltn on)
 
 pub same-key-spec : {M : Type 1} → statement M
 same-key-spec =
     tie.close
     (tie.spec
-    location-requires
+    four-requires
+    place-of-requires
     returns
-    same-service-requires
     shared-slice-read-result
     shared-slice-read-result-2
+    shared-slice-read-result-3
     returns-2)
