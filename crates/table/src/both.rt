@@ -19,15 +19,19 @@ pub(crate) fn sweep_both(t: &mut [u8], minute: u32, key: Key) -> Freed
 {
     let n = t.len() / Record::SIZE;
     let mut expired = 0;
-    let mut matched = 0;
+    // The matching records are counted down from all: two counts that go the same way are kept in memory as one vector.
+    let mut unmatched = n;
     let mut i = 0;
     while i < n {
         let a = i * Record::SIZE;
         let e = a + Record::SIZE;
         let freed = free_gone(&mut t[a..e], minute, key);
         expired += freed.expired;
-        matched += freed.matched;
+        unmatched -= freed.matched;
         i += 1;
     }
-    Freed { expired, matched }
+    Freed {
+        expired,
+        matched: n - unmatched,
+    }
 }

@@ -23,15 +23,15 @@ abbrev part : List ℕ → ℕ → List ℕ
 part t i = take (i * recordSize + recordSize - i * recordSize) (drop (i * recordSize) t)
 
 abbrev Inv-loop : tie.InvT-loop
-Inv-loop t₀ minute key n e₀ m₀ i₀ t e m i =
-    (i ≤ n) × (t ≡ swept (gone minute key) i t₀) × (e ≡ countIf (expired minute) (chunks i t₀)) × (m ≡ countIf (matched minute key) (chunks i t₀))
+Inv-loop t₀ minute key n e₀ u₀ i₀ t e u i =
+    (i ≤ n) × (t ≡ swept (gone minute key) i t₀) × (e ≡ countIf (expired minute) (chunks i t₀)) × (u + countIf (matched minute key) (chunks i t₀) ≡ n)
 
 abbrev μ-loop : tie.MeasureT-loop
-μ-loop t₀ minute key n e₀ m₀ i₀ t e m i = n - i
+μ-loop t₀ minute key n e₀ u₀ i₀ t e u i = n - i
 
 loop-holds : tie.Need-loop-holds Inv-loop μ-loop
 unfolding countIf chunks
-loop-holds c = (omega arith, sweep-none (gone (c .before .args .minute) (c .before .args .key)) (c .before .args .t .now), refl, refl)
+loop-holds c = (omega arith, sweep-none (gone (c .before .args .minute) (c .before .args .key)) (c .before .args .t .now), refl, omega arith)
 
 mul-a : tie.Need-mul-a Inv-loop μ-loop
 mul-a c = omega arith
@@ -60,8 +60,8 @@ add-expired c =
     let l = c .before .before .before .before .before .before .loop in
     omega (arith, l .inv .2, count-le (expired (a .minute)) (l .i) (a .t .now), c .before .before .before .free-gone .ensures .0 .0, num-le (fallsOne (Expired (a .minute)) (part (l .t) (l .i))))
 
-add-matched : tie.Need-add-matched Inv-loop μ-loop
-add-matched c =
+sub-unmatched : tie.Need-sub-unmatched Inv-loop μ-loop
+sub-unmatched c =
     let a = c .before .before .before .before .before .before .before .before .before .args in
     let l = c .before .before .before .before .before .before .before .loop in
     omega (arith, l .inv .3, count-le (matched (a .minute) (a .key)) (l .i) (a .t .now), c .before .before .before .before .free-gone .ensures .0 .1, num-le (fallsOne (Matching (a .key)) (freedIf (fallsOne (Expired (a .minute))) (part (l .t) (l .i)))))
@@ -87,9 +87,11 @@ loop-again c =
       omega arith,
       sweep-next p (l .i) t₀ (l .t) h (l .inv .1) (f .last .0) (f .ensures .1 ∙ two-freed first second r long ∙ freed-at-once (a .minute) (a .key) r),
       ap (λ (n : ℕ). n + f .result .expired) (l .inv .2) ∙ count-next p (l .i) t₀ (l .t) h (l .inv .1) (expired (a .minute)) (f .result .expired) (f .ensures .0 .0 ∙ ap num (one-record first r long)),
-      ap (λ (n : ℕ). n + f .result .matched) (l .inv .3)
-          ∙ count-next p (l .i) t₀ (l .t) h (l .inv .1) (matched (a .minute) (a .key)) (f .result .matched) (f .ensures .0 .1 ∙ ap num (two-falls first second r long ∙ matched-once (a .minute) (a .key) r)),
+      omega (arith, l .inv .3, count-le (matched (a .minute) (a .key)) (l .i) t₀, f .ensures .0 .1, num-le (fallsOne second (freedIf (fallsOne first) r)), count-next p (l .i) t₀ (l .t) h (l .inv .1) (matched (a .minute) (a .key)) (f .result .matched) (f .ensures .0 .1 ∙ ap num (two-falls first second r long ∙ matched-once (a .minute) (a .key) r))),
     )
+
+sub-t11 : tie.Need-sub-t11 Inv-loop μ-loop
+sub-t11 c = omega (arith, c .before .loop .inv .3)
 
 same-length : tie.Need-same-length Inv-loop μ-loop
 same-length c =
@@ -103,8 +105,9 @@ returns c =
     let a = b .args in
     let t₀ = a .t .now in
     let l = c .before .loop in
-    let e : l .i ≡ length t₀ / recordSize = omega arith in (
-      (l .inv .2 ∙ counted-all (expired (a .minute)) (l .i) t₀ e, l .inv .3 ∙ counted-all (matched (a .minute) (a .key)) (l .i) t₀ e ∙ sym (matched-counted (a .minute) (a .key) t₀ (b .pre))),
+    let e : l .i ≡ length t₀ / recordSize = omega arith in
+    let counted : length t₀ / recordSize - l .unmatched ≡ countIf (matched (a .minute) (a .key)) (chunks (l .i) t₀) = omega (arith, l .inv .3) in (
+      (l .inv .2 ∙ counted-all (expired (a .minute)) (l .i) t₀ e, counted ∙ counted-all (matched (a .minute) (a .key)) (l .i) t₀ e ∙ sym (matched-counted (a .minute) (a .key) t₀ (b .pre))),
       l .inv .1 ∙ swept-all (gone (a .minute) (a .key)) (l .i) t₀ (b .pre) e ∙ both-at-once (a .minute) (a .key) t₀ (b .pre),
     )
 
@@ -122,9 +125,10 @@ sweep-both-spec =
     part-free-gone-end
     free-gone-requires
     add-expired
-    add-matched
+    sub-unmatched
     add-i
     loop-less
     loop-again
+    sub-t11
     same-length
     returns)
