@@ -10,11 +10,8 @@ use lib.Dec.{eqb}
 use borrow.Author.Tests.{le-leb, ne-eqb}
 use Rattle.bits.specs.Bits.{val, allZero}
 use Rattle.bits.specs.Fields.{flat, words}
-use Rattle.bits.specs.Overlay.{stretch}
 use Rattle.bits.proofs.Choice.{passed-over}
 use Rattle.bits.proofs.Value.{val-lt}
-use Rattle.bits.proofs.Fields.{take-flat, drop-flat}
-use Rattle.bits.proofs.Stretch.{stretch-within}
 use Rattle.content.specs.declared.item.Item.{Item}
 use Rattle.content.specs.Packing.{zeros, packing, groupBits, longest}
 use Rattle.content.specs.Stored.{listed}
@@ -28,11 +25,11 @@ use Rattle.report.specs.Record.{bytesOf, groupsBy, groupsOf}
 use Rattle.report.proofs.Multi.{fit-writable}
 use Rattle.report.proofs.Kept.{no-items, single-none, report-items}
 use Rattle.record.specs.declared.Service.{Service}
-use Rattle.record.specs.Layout.{recordSize, byteAt, contentIn, expiryIn}
+use Rattle.record.specs.Layout.{byteAt, expiryIn}
 use Rattle.record.specs.Made.{recordOf}
 use Rattle.record.specs.WellFormed.{lows, highs, inRange, byteFits, allBelow, rangesFit, contentBits, spareIn, restFits, wellFormed}
 use Rattle.record.proofs.Kept.{groups-few}
-use Rattle.record.proofs.Fields.{length-made, used-back, groups-back, expiry-back, content-back, class-back, country-back}
+use Rattle.record.proofs.Fields.{used-back, groups-back, expiry-back, content-back, class-back, country-back}
 use Rattle.record.proofs.WayBack.{bits-back}
 use Rattle.record.proofs.Reports.{report-ranges}
 

@@ -1,19 +1,19 @@
 -- A record is well-formed if the bits of its row of masks are zero, and a used one has an expiry and a class.
 use Prim.Native.Nat.{ℕ, zero, suc, _+_, _-_, _*_, _%_, _^_, _≤_, _<_}
-use mathlib.Core.Path.{_≡_, refl, sym, ap, ap₂, subst, _∙_}
+use mathlib.Core.Path.{_≡_, refl, sym, ap, ap₂, _∙_}
 use mathlib.Core.Bool.{Bool, true, false, cond, not, _&&_, _||_, and-false}
-use mathlib.Core.List.{List, [], _∷_, _++_}
+use mathlib.Core.List.{List, [], _∷_}
 use native.Mathlib.Nat.{zero-add}
 use native.Mathlib.Omega.{arith}
-use lib.ListN.{length, take, drop, getD, replicate}
+use lib.ListN.{length, take, drop, getD}
 use lib.Dec.{leb, ltb, eqb, leb·zero}
 use lib.Bits.{bitAnd, and-mask, and-zero-r}
-use borrow.Author.Tests.{leb-true, leb-false, ltb-true, ltb-false, eqb-true, eqb-false, le-leb, lt-leb, le-ltb, lt-ltb, eq-eqb, ne-eqb}
+use borrow.Author.Tests.{leb-true, leb-false, ltb-true, eqb-true, eqb-false, le-leb, lt-leb, le-ltb, lt-ltb, eq-eqb, ne-eqb}
 use Rattle.bits.specs.Bits.{allZero}
 use Rattle.bits.specs.Fields.{flat}
 use Rattle.bits.proofs.Choice.{and-left, and-right, chosen, passed-over}
 use Rattle.content.specs.Packing.{groupBits}
-use Rattle.record.specs.Layout.{recordSize, byteAt, isFree, groupsIn, expiryIn, contentIn, classIn, little}
+use Rattle.record.specs.Layout.{byteAt, groupsIn, expiryIn, classIn, little}
 use Rattle.record.specs.WellFormed.{lows, highs, inRange, byteFits, allBelow, rangesFit, contentBits, spareIn, restFits, wellFormed}
 use Rattle.record.specs.Zeros.{spares, ones, front, middle, back, rowZeros, zeroBits}
 use Rattle.record.proofs.Ranges.{allBelow-add, allBelow-same}

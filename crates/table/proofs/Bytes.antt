@@ -2,12 +2,12 @@
 use Prim.Native.Nat.{ℕ, _+_, _-_, _*_, _/_, _≤_, _<_}
 use native.Mathlib.Omega.{arith}
 use mathlib.Core.Path.{_≡_, refl, sym, ap, ap₂, subst, _∙_}
-use mathlib.Core.Bool.{Bool, true, false, cond, not, _&&_, _||_, and-false}
+use mathlib.Core.Bool.{Bool, true, false, cond, not, _&&_, _||_}
 use mathlib.Core.List.{List}
 use lib.ListN.{length, take, drop, getD, length-drop}
 use lib.Seq.{length-take-le, take-add, take-take, drop-drop, drop-at}
 use lib.Dec.{eqb, ltb}
-use borrow.Author.Tests.{eq-eqb, ltb-false, not-true, not-false}
+use borrow.Author.Tests.{eq-eqb, ltb-false}
 use Rattle.bits.proofs.Choice.{chosen}
 use Rattle.record.specs.Layout.{recordSize, isRecord, byteAt, groupsIn, expiryIn, classIn, little}
 use Rattle.record.specs.WellFormed.{allBelow, wellFormed}

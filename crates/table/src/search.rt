@@ -1,6 +1,5 @@
 // The place for a report.
 ghost use mathlib.Core.Path.{_≡_};
-ghost use lib.ListN.{length};
 ghost use Rattle.table.specs.Records.{lowestFree};
 use record::Record;
 
