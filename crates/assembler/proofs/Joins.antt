@@ -11,7 +11,7 @@ use Rattle.bits.specs.Fields.{flat}
 use Rattle.bits.proofs.Value.{length-bits}
 use Rattle.content.specs.declared.content.Content.{Content}
 use Rattle.content.specs.Packing.{groupBits}
-use Rattle.content.specs.Held.{bitsOf}
+use Rattle.content.specs.Halves.{bitsOf}
 use Rattle.content.proofs.Halves.{length-bitsOf, bitsOf-contentOf}
 use Rattle.assembler.specs.Joining.{groupBefore, putBefore}
 

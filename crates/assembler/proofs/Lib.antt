@@ -1,10 +1,11 @@
-pub mod Holding
+pub mod States
 pub mod Turns
 pub mod Joins
-pub mod Outcomes
 pub mod CallSteps
 pub mod Refusals
 pub mod Demand3
 pub mod Reached
+pub mod OneMessage
+pub mod WayBack
 pub mod Examples
 pub mod OldFault

@@ -2,23 +2,25 @@
 use mathlib.Core.Path.{_≡_, refl, sym, ap, subst, _∙_}
 use mathlib.Core.Logic.{_↔_}
 use mathlib.Core.Bool.{true}
+use Rattle.report.specs.declared.Report.{Report}
 use Rattle.report.specs.Report.{singleReport}
+use Rattle.transmission.specs.Reading.{ReadsMulti}
 use Rattle.transmission.proofs.Reached as abstract
 use Rattle.assembler.specs.declared.Assembler.{Assembler}
 use Rattle.assembler.specs.declared.Assembler.the-variants.{Empty}
-use Rattle.assembler.specs.Held.{stateOf, held}
+use Rattle.assembler.specs.State.{stateOf, assemblerOf}
 use Rattle.assembler.specs.Fits.{fits}
-use Rattle.assembler.specs.Answers.{readReport}
 use Rattle.assembler.specs.Calls.{after, Reached}
-use Rattle.assembler.proofs.Holding.{held-state, state-reachable}
+use Rattle.assembler.proofs.States.{assembler-state, state-reachable}
 use Rattle.assembler.proofs.CallSteps.{after-fits, same-after}
 use Rattle.assembler.proofs.Refusals.{by-words}
 
-pub reached : (a : Assembler) → fits a ≡ true ↔ Reached a
+pub reached : (read : ReadsMulti Report) (a : Assembler) → fits a ≡ true ↔ Reached read a
 unfolding fits stateOf
-reached a = (
+reached read a = (
   λ e.
-      let w = abstract.reached singleReport readReport (stateOf a) .0 (state-reachable a e) in
-      by-words Empty a (w .0) (sym (held-state (after Empty (w .0)) (after-fits (w .0) Empty refl)) ∙ ap held (same-after (w .0) Empty refl ∙ w .1) ∙ held-state a e),
-  λ w. subst (λ (b : Assembler). fits b ≡ true) (w .2) (after-fits (w .0) Empty refl),
+      let w = abstract.reached singleReport read (stateOf a) .0 (state-reachable a e) in
+      by-words read Empty a (w .0)
+      (sym (assembler-state (after read Empty (w .0)) (after-fits read (w .0) Empty refl)) ∙ ap assemblerOf (same-after read (w .0) Empty refl ∙ w .1) ∙ assembler-state a e),
+  λ w. subst (λ (b : Assembler). fits b ≡ true) (w .2) (after-fits read (w .0) Empty refl),
 )

@@ -8,6 +8,8 @@ use borrow.Author.Tests.{ltb-true, ltb-false, le-leb}
 use Rattle.bits.proofs.Choice.{passed-over}
 use Rattle.word.specs.Format.{limit}
 use Rattle.word.specs.Kind.{kindOf}
+use Rattle.report.specs.declared.Report.{Report}
+use Rattle.transmission.specs.Reading.{ReadsMulti}
 use Rattle.transmission.specs.Step.{stepBy, step}
 use Rattle.transmission.specs.Demand3.{All}
 use Rattle.assembler.specs.declared.Assembler.{Assembler}
@@ -18,20 +20,6 @@ use Rattle.assembler.specs.Answers.{answerOf, reportIn, withoutReport}
 use Rattle.assembler.specs.Step.{stepOf}
 use Rattle.assembler.specs.Calls.{after}
 use Rattle.assembler.proofs.CallSteps.{kept}
-
--- a state that no calls reach
-pub unreached-refused : (a : Assembler) (n : ℕ) → fits a ≡ false → stepOf a n ≡ withoutReport a (Refused 9)
-unfolding stepOf
-unreached-refused a n e = passed-over _ _ _ e
-
--- a number of 2^37 or more, from any state
-pub no-word-refused : (a : Assembler) (n : ℕ) → limit ≤ n → stepOf a n ≡ withoutReport a (Refused 9)
-unfolding stepOf step stepBy kindOf answerOf reportIn
-no-word-refused a n h = by-state (fits a) refl
-  where
-    by-state : (b : Bool) → fits a ≡ b → stepOf a n ≡ withoutReport a (Refused 9)
-    by-state false e = unreached-refused a n e
-    by-state true e = rw (e, le-leb limit n h) (sym (kept a e (Refused 9)))
 
 -- the words among the numbers
 wordsAmong : List ℕ → List ℕ
@@ -47,16 +35,31 @@ are-words (n ∷ words) = by-size (ltb n limit) refl (are-words words)
     by-size true e rest = (ltb-true n limit e, rest)
     by-size false e rest = rest
 
-only-words : (words : List ℕ) (a : Assembler) → after a (wordsAmong words) ≡ after a words
-unfolding wordsAmong after
-only-words [] a = refl
-only-words (n ∷ words) a = by-size (ltb n limit) refl (only-words words a) (only-words words (stepOf a n .next))
-  where
-    by-size : (b : Bool) → ltb n limit ≡ b → after a (wordsAmong words) ≡ after a words → after (stepOf a n .next) (wordsAmong words) ≡ after (stepOf a n .next) words
-        → after a (cond b (n ∷ wordsAmong words) (wordsAmong words)) ≡ after (stepOf a n .next) words
-    by-size true e left taken = taken
-    by-size false e left taken = left ∙ ap (λ (s : Step). after (s .next) words) (sym (no-word-refused a n (ltb-false n limit e)))
+module _ (read : ReadsMulti Report) where
+  -- a state that no calls reach
+  pub unreached-refused : (a : Assembler) (n : ℕ) → fits a ≡ false → stepOf read a n ≡ withoutReport a (Refused 9)
+  unfolding stepOf
+  unreached-refused a n e = passed-over _ _ _ e
 
--- a list of words gives whatever state a list of numbers gives
-pub by-words : (a b : Assembler) (words : List ℕ) → after a words ≡ b → (words : List ℕ) × All (λ n. n < limit) words × (after a words ≡ b)
-by-words a b words e = (wordsAmong words, are-words words, only-words words a ∙ e)
+  -- a number of 2^37 or more, from any state
+  pub no-word-refused : (a : Assembler) (n : ℕ) → limit ≤ n → stepOf read a n ≡ withoutReport a (Refused 9)
+  unfolding stepOf step stepBy kindOf answerOf reportIn
+  no-word-refused a n h = by-state (fits a) refl
+    where
+      by-state : (b : Bool) → fits a ≡ b → stepOf read a n ≡ withoutReport a (Refused 9)
+      by-state false e = unreached-refused a n e
+      by-state true e = rw (e, le-leb limit n h) (sym (kept a e (Refused 9)))
+
+  only-words : (words : List ℕ) (a : Assembler) → after read a (wordsAmong words) ≡ after read a words
+  unfolding wordsAmong after
+  only-words [] a = refl
+  only-words (n ∷ words) a = by-size (ltb n limit) refl (only-words words a) (only-words words (stepOf read a n .next))
+    where
+      by-size : (b : Bool) → ltb n limit ≡ b → after read a (wordsAmong words) ≡ after read a words → after read (stepOf read a n .next) (wordsAmong words) ≡ after read (stepOf read a n .next) words
+          → after read a (cond b (n ∷ wordsAmong words) (wordsAmong words)) ≡ after read (stepOf read a n .next) words
+      by-size true e left taken = taken
+      by-size false e left taken = left ∙ ap (λ (s : Step). after read (s .next) words) (sym (no-word-refused a n (ltb-false n limit e)))
+
+  -- a list of words gives whatever state a list of numbers gives
+  pub by-words : (a b : Assembler) (words : List ℕ) → after read a words ≡ b → (words : List ℕ) × All (λ n. n < limit) words × (after read a words ≡ b)
+  by-words a b words e = (wordsAmong words, are-words words, only-words words a ∙ e)

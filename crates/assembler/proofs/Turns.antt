@@ -9,15 +9,15 @@ use lib.ListN.{take}
 use borrow.Author.Tests.{eqb-true, ne-eqb, leb-true}
 use Rattle.bits.proofs.Choice.{and-left, and-right}
 use Rattle.word.specs.declared.Head.{Head}
+use Rattle.report.specs.Read.{readReport}
 use Rattle.transmission.specs.State.{started}
 use Rattle.transmission.specs.Step.{nothing, leaving, strayed, inTurn, completed, taken, later}
 use Rattle.transmission.specs.Reachable.{countFits}
 use Rattle.assembler.specs.declared.Partial.{Partial}
 use Rattle.assembler.specs.declared.Assembler.the-variants.{Started}
-use Rattle.assembler.specs.Held.{contentsOf, stateOf, partialOf}
-use Rattle.assembler.specs.Fits.{placeFits}
-use Rattle.assembler.specs.Answers.{readReport}
-use Rattle.assembler.proofs.Holding.{Places}
+use Rattle.assembler.specs.State.{contentsOf, stateOf, partialOf}
+use Rattle.assembler.specs.Fits.{contentFits}
+use Rattle.assembler.proofs.States.{Contents}
 
 -- the turn, by the number of later groups so far
 pub first-turn : (p : Partial) (second gsi : ℕ) → p .count ≡ 0 → inTurn (p .gsi) (contentsOf p) second gsi ≡ eqb second 1
@@ -32,7 +32,7 @@ next-turn p second gsi more = by-count (p .count) more
     by-count zero h = absurd (h refl)
     by-count (suc n) h = refl
 
--- a group in its turn that does not complete finds a free place
+-- a group in its turn that does not complete finds a free position
 pub room : (p : Partial) (second gsi : ℕ) → inTurn (p .gsi) (contentsOf p) second gsi ≡ true → countFits (p .count) (p .gsi) ≡ true → (gsi ≡ 0 → ⊥) → p .count ≤ 2
 unfolding countFits inTurn contentsOf
 room p second gsi turn all more = by-count (p .count) turn all
@@ -44,8 +44,8 @@ room p second gsi turn all more = by-count (p .count) turn all
         let few = leb-true (suc n + p .gsi) 4 (and-right (leb 1 (p .gsi)) (leb (suc n + p .gsi) 4) f) in
         omega arith
 
--- one content more, at the first free place
-pub one-more : (ci : ℕ) (head : Head) (gsi count a b c content : ℕ) → count ≤ 2 → Places count a b c
+-- one content more, at the first free position
+pub one-more : (ci : ℕ) (head : Head) (gsi count a b c content : ℕ) → count ≤ 2 → Contents count a b c
     → record {
       ci = ci;
       head = head;
@@ -55,7 +55,7 @@ pub one-more : (ci : ℕ) (head : Head) (gsi count a b c content : ℕ) → coun
       second = cond (eqb count 1) content b;
       third = cond (eqb count 2) content c;
     } ≡ partialOf ci head gsi (take count (a ∷ b ∷ c ∷ []) ++ content ∷ [])
-unfolding partialOf placeFits
+unfolding partialOf contentFits
 one-more ci head gsi zero a b c content h p = rw (eqb-true b 0 (p .second), eqb-true c 0 (p .third))
 one-more ci head gsi (suc zero) a b c content h p = rw (eqb-true c 0 (p .third))
 one-more ci head gsi (suc (suc zero)) a b c content h p = refl

@@ -11,9 +11,9 @@ use Rattle.assembler.specs.declared.Partial.{Partial}
 use Rattle.assembler.specs.declared.Assembler.{Assembler}
 use Rattle.assembler.specs.declared.Assembler.the-variants.{Empty, Started}
 
--- a content at a place in use has 28 bits, and one at another place is zero
-unfoldable pub placeFits : ℕ → ℕ → ℕ → Bool
-placeFits count place content = cond (ltb place count) (ltb content (2 ^ 28)) (eqb content 0)
+-- a content at a position in use has 28 bits, and one at another position is zero
+unfoldable pub contentFits : ℕ → ℕ → ℕ → Bool
+contentFits count position content = cond (ltb position count) (ltb content (2 ^ 28)) (eqb content 0)
 
 -- an open message: a continuity index of 1 to 6, a head in range, later groups taken and still to come at most four, and the contents
 unfoldable pub partialFits : Partial → Bool
@@ -21,8 +21,8 @@ partialFits p =
     isIndex (p .ci)
     && (inRange headPart (headValues (p .head))
     && (countFits (p .count) (p .gsi)
-    && (placeFits (p .count) 0 (p .first)
-    && (placeFits (p .count) 1 (p .second) && placeFits (p .count) 2 (p .third)))))
+    && (contentFits (p .count) 0 (p .first)
+    && (contentFits (p .count) 1 (p .second) && contentFits (p .count) 2 (p .third)))))
 
 unfoldable pub fits : Assembler → Bool
 fits Empty = true

@@ -7,12 +7,12 @@ use lib.Dec.{ltb}
 use Rattle.bits.specs.Bits.{bits}
 use Rattle.content.specs.declared.content.Content.{Content}
 use Rattle.content.specs.Packing.{groupBits}
-use Rattle.content.specs.Held.{bitsOf, contentOf}
+use Rattle.content.specs.Halves.{bitsOf, contentOf}
 
 -- the content of a group before other content bits
 unfoldable pub groupBefore : ℕ → Content → Content
 groupBefore content others = contentOf (bits groupBits content ++ take (128 - groupBits) (bitsOf others))
 
--- the content at a place before others, if so many places are in use
+-- the content at a position before others, if the position is in use
 unfoldable pub putBefore : ℕ → ℕ → ℕ → Content → Content
-putBefore count place content others = cond (ltb place count) (groupBefore content others) others
+putBefore count position content others = cond (ltb position count) (groupBefore content others) others

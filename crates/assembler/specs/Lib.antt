@@ -1,7 +1,9 @@
-pub mod Held
+pub mod State
 pub mod Fits
 pub mod Answers
 pub mod Joining
 pub mod Step
 pub mod Calls
 pub mod Demand3
+pub mod WayBack
+pub mod Samples

@@ -3,10 +3,11 @@ ghost use mathlib.Core.Path.{_≡_};
 ghost use mathlib.Core.Bool.{true};
 ghost use mathlib.Core.List.{[], _∷_, _++_};
 ghost use Rattle.report.specs.Report.{singleReport};
+ghost use Rattle.report.specs.Read.{readReport};
 ghost use Rattle.transmission.specs.Step.{stepBy, later as Step·later, completed as Step·completed};
-ghost use Rattle.assembler.specs.Held.{stateOf, contentsOf};
+ghost use Rattle.assembler.specs.State.{stateOf, contentsOf};
 ghost use Rattle.assembler.specs.Fits.{partialFits, fits};
-ghost use Rattle.assembler.specs.Answers.{readReport, given, withReport, withoutReport};
+ghost use Rattle.assembler.specs.Answers.{given, withReport, withoutReport};
 ghost use Rattle.assembler.specs.Step.{stepOf};
 use crate::Answer;
 use crate::Assembler;
@@ -28,7 +29,7 @@ impl Assembler {
     // Takes the next word. A word of 2^37 or more and a state that no calls reach are refused (9) before all else; CI 7 is refusal 6, a
     // later group out of turn 5, and the content of a whole message 7 or 8.
     pub fn step(self, word: u64) -> Step
-        ensures { λ r. ⌜ r ≡ stepOf self word ⌝ }
+        ensures { λ r. ⌜ r ≡ stepOf readReport self word ⌝ }
     {
         if self.fits() {
             self.take(Word::parse(word))

@@ -1,7 +1,7 @@
 // The states that calls reach.
 ghost use mathlib.Core.Path.{_≡_};
 ghost use Rattle.transmission.specs.Reachable.{countFits};
-ghost use Rattle.assembler.specs.Fits.{placeFits, partialFits, fits as Fits·fits};
+ghost use Rattle.assembler.specs.Fits.{contentFits, partialFits, fits as Fits·fits};
 use crate::Assembler;
 use crate::Partial;
 use word::compose::head_fits;
@@ -32,8 +32,8 @@ fn partial_fits(p: Partial) -> bool
     is_index(p.ci)
         & (head_fits(p.head)
             & (count_fits(p.count, p.gsi)
-                & (place_fits(p.count, 0, p.first)
-                    & (place_fits(p.count, 1, p.second) & place_fits(p.count, 2, p.third)))))
+                & (content_fits(p.count, 0, p.first)
+                    & (content_fits(p.count, 1, p.second) & content_fits(p.count, 2, p.third)))))
 }
 
 // Whether so many later groups go with the GSI of the last.
@@ -47,11 +47,11 @@ fn count_fits(count: u8, gsi: u8) -> bool
     }
 }
 
-// Whether the content at a place is one of 28 bits, or zero where the place is not in use.
-fn place_fits(count: u8, place: u8, content: u32) -> bool
-    ensures { λ r. ⌜ r ≡ placeFits count place content ⌝ }
+// Whether the content at a position is one of 28 bits, or zero where the position is not in use.
+fn content_fits(count: u8, position: u8, content: u32) -> bool
+    ensures { λ r. ⌜ r ≡ contentFits count position content ⌝ }
 {
-    if place < count {
+    if position < count {
         content < Assembler::CONTENT_LIMIT
     } else {
         content == 0

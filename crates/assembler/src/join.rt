@@ -4,9 +4,9 @@ ghost use mathlib.Core.List.{[], _∷_, _++_};
 ghost use Prim.Native.Nat.{_≤_, _+_, _*_};
 ghost use lib.ListN.{take};
 ghost use Rattle.bits.specs.Fields.{flat};
-ghost use Rattle.content.specs.Held.{bitsOf};
+ghost use Rattle.content.specs.Halves.{bitsOf};
 ghost use Rattle.content.specs.Packing.{groupBits};
-ghost use Rattle.assembler.specs.Held.{contentsOf};
+ghost use Rattle.assembler.specs.State.{contentsOf};
 ghost use Rattle.assembler.specs.Joining.{putBefore};
 use crate::Partial;
 use content::content::Content;
@@ -22,11 +22,11 @@ pub(crate) fn joined(p: Partial, content: u32) -> Content
     before(p.count, 0, p.first, second)
 }
 
-// The content at a place put before others, if the place is in use.
-fn before(count: u8, place: u8, content: u32, others: Content) -> Content
-    ensures { λ r. ⌜ r ≡ putBefore count place content others ⌝ }
+// The content at a position put before others, if the position is in use.
+fn before(count: u8, position: u8, content: u32, others: Content) -> Content
+    ensures { λ r. ⌜ r ≡ putBefore count position content others ⌝ }
 {
-    if place < count {
+    if position < count {
         others.prefixed(Content::GROUP, content as u64)
     } else {
         others

@@ -7,7 +7,7 @@ mod turn;
 use report::Report;
 use word::Head;
 
-// What is held between two calls.
+// What lasts from one call to the next.
 pub enum Assembler {
     Empty,
     // A message is open.
@@ -16,6 +16,7 @@ pub enum Assembler {
 
 // An open message: its first group's continuity index and head, the GSI of the last later group taken (0 while there is none), and how
 // many later groups were taken with their contents in order. Unused contents are zero; a fourth later group always completes.
+#[repr(C)]
 pub struct Partial {
     pub ci: u8,
     pub head: Head,

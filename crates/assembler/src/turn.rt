@@ -5,7 +5,7 @@ ghost use mathlib.Core.List.{[], _∷_, _++_};
 ghost use Prim.Native.Nat.{_≤_};
 ghost use lib.Dec.{eqb};
 ghost use Rattle.transmission.specs.Step.{inTurn};
-ghost use Rattle.assembler.specs.Held.{contentsOf, partialOf};
+ghost use Rattle.assembler.specs.State.{contentsOf, partialOf};
 ghost use Rattle.assembler.specs.Fits.{partialFits};
 use crate::Partial;
 use word::Head;
@@ -48,16 +48,16 @@ impl Partial {
             head,
             gsi,
             count: self.count + 1,
-            first: placed(self.count, 0, self.first, content),
-            second: placed(self.count, 1, self.second, content),
-            third: placed(self.count, 2, self.third, content),
+            first: put(self.count, 0, self.first, content),
+            second: put(self.count, 1, self.second, content),
+            third: put(self.count, 2, self.third, content),
         }
     }
 }
 
-// The new content at the first place that is not in use, and the old one at any other.
-fn placed(count: u8, place: u8, old: u32, new: u32) -> u32
-    ensures { λ r. ⌜ r ≡ cond (eqb count place) new old ⌝ }
+// The new content at the first position that is not in use, and the old one at any other.
+fn put(count: u8, position: u8, old: u32, new: u32) -> u32
+    ensures { λ r. ⌜ r ≡ cond (eqb count position) new old ⌝ }
 {
-    if count == place { new } else { old }
+    if count == position { new } else { old }
 }

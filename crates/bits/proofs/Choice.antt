@@ -1,6 +1,11 @@
--- Both parts of a test that holds, and the two ways of a choice.
+-- The two ways of a test and of a choice, and both parts of a test that holds.
 use mathlib.Core.Path.{_≡_, refl, ap}
 use mathlib.Core.Bool.{Bool, true, false, _&&_, cond}
+
+-- a test is true or false
+pub either : {P : Type 0} (b : Bool) → (b ≡ true → P) → (b ≡ false → P) → P
+either true t f = t refl
+either false t f = f refl
 
 pub and-left : (a b : Bool) → a && b ≡ true → a ≡ true
 and-left true b e = refl

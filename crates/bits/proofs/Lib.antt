@@ -8,3 +8,4 @@ pub mod Loading
 pub mod Replacing
 pub mod InBytes
 pub mod Runs
+pub mod Outcomes

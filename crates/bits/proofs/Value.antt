@@ -1,14 +1,14 @@
 -- The laws of `bits` and `val`, each over the width.
 use Prim.Native.Nat.{ℕ, zero, suc, _+_, _*_, _/_, _%_, _^_, _<_, _≤_}
-use native.Mathlib.Nat.{zero-mod, mod-lt, mod-eq-of-lt, mod-mod, mod-one, zero-mul, zero-add, add-zero, add-mul, mul-assoc, add-assoc, pow-succ', pow-suc, mul-comm}
+use native.Mathlib.Nat.{lt-of-lt-of-le, zero-mod, mod-lt, mod-eq-of-lt, mod-mod, mod-one, zero-mul, zero-add, add-zero, add-mul, mul-assoc, add-assoc, pow-succ', pow-suc, mul-comm}
 use native.Mathlib.Numerals.{one-add}
 use native.Mathlib.Omega.{arith}
 use mathlib.Core.Path.{_≡_, refl, sym, ap, ap₂, subst, _∙_}
 use mathlib.Core.Bool.{Bool, true, false, _&&_}
 use mathlib.Core.List.{List, [], _∷_, _++_}
-use lib.ListN.{length, take, drop, length-append}
+use lib.ListN.{length, take, drop, length-append, length-take}
 use lib.Seq.{take-at, drop-at}
-use lib.Pow.{pow-pos, pow-add, high, low, mod-pow-add}
+use lib.Pow.{pow-pos, pow-add, pow-mono, high, low, mod-pow-add}
 use lib.Arith.{digits-lt}
 use borrow.Author.Tests.{eq-eqb, ne-eqb}
 use lib.Dec.{eqb, lit<}
@@ -43,6 +43,12 @@ pub val-lt : (l : List Bool) → val l < 2 ^ length l
 unfolding val
 val-lt [] = lit< tt
 val-lt (b ∷ l) = rw (pow-succ' 2 (length l)) (digits-lt (num-lt b) (val-lt l))
+
+-- the first w bits, or fewer, are a number below 2 ^ w
+pub val-take-lt : (w : ℕ) (l : List Bool) → val (take w l) < 2 ^ w
+val-take-lt w l =
+    let short : length (take w l) ≤ w = omega (arith, length-take w l) in
+    lt-of-lt-of-le (val-lt (take w l)) (pow-mono short)
 
 pub length-bits : (w v : ℕ) → length (bits w v) ≡ w
 unfolding bits

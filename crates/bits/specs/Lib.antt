@@ -2,3 +2,4 @@ pub mod Bits
 pub mod Fields
 pub mod Overlay
 pub mod Checks
+pub mod Outcome

@@ -13,7 +13,7 @@ use lib.Arith.{digits-lt}
 use Rattle.bits.specs.Bits.{bits, val, allZero}
 use Rattle.bits.proofs.Value.{length-bits, val-bits-lt, bits-val, bits-append, bits-mod, allZero-append, allZero-val}
 use Rattle.content.specs.Packing.{zeros}
-use Rattle.content.specs.Held.{bitsOf, contentOf}
+use Rattle.content.specs.Halves.{bitsOf, contentOf}
 use Rattle.content.specs.declared.content.Content.{Content}
 use Rattle.content.proofs.Zeros.{bits-zero}
 

@@ -1,3 +1,5 @@
+pub mod FirstLaw
+pub mod ItemsLaw
 pub mod Zeros
 pub mod Halves
 pub mod Lengths
@@ -12,4 +14,3 @@ pub mod Reader
 pub mod WidthRuns
 pub mod Prepending
 pub mod PackedIsRead
-pub mod WorkedContent

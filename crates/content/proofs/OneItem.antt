@@ -12,9 +12,9 @@ use Rattle.bits.specs.Bits.{bits, val, allZero}
 use Rattle.bits.proofs.Value.{length-bits, val-bits-lt, bits-val, val-lt, allZero-append, allZero-val}
 use Rattle.content.specs.Widths.{labelWidth, width, sublabelled}
 use Rattle.content.specs.Items.{item, unfit, valued, labelled, first}
-use Rattle.content.specs.FirstLaw.{first-taking}
 use Rattle.content.specs.Packing.{itemBits, itemFits, zeroItem}
 use Rattle.content.specs.declared.item.Item.{Item}
+use Rattle.content.proofs.FirstLaw.{first-taking}
 use Rattle.bits.proofs.Choice.{and-left, and-right}
 
 pub first-short : (l : List Bool) → length l < labelWidth → first l ≡ unfit 7

@@ -6,9 +6,10 @@ use mathlib.Core.Bool.{Bool, true, false, _&&_}
 use mathlib.Core.List.{List, _++_}
 use lib.ListN.{length, take, length-append, length-replicate}
 use lib.Seq.{take-append-add}
-use Rattle.content.specs.Items.{holds, content}
+use Rattle.bits.specs.Outcome.{gives}
+use Rattle.content.specs.Content.{content}
 use Rattle.content.specs.Packing.{zeros, packing, longest, writable, room, padded}
-use Rattle.content.specs.Held.{bitsOf, startingWith}
+use Rattle.content.specs.Halves.{bitsOf, startingWith}
 use Rattle.content.specs.Stored.{limit, filled, wellPlaced}
 use Rattle.content.specs.Answers.{packed, packedIf, packedOf}
 use Rattle.content.specs.declared.item.Item.{Item}
@@ -34,7 +35,7 @@ module _ (its : List Item) (w : writable its ≡ true) where
       ap (λ (l : List Item). packedIf (wellPlaced (filled its) && writable l) l) (listed-filled its)
       ∙ ap (λ (b : Bool). packedIf b its) (ap₂ _&&_ (wellPlaced-filled its h) w)
 
-  -- the first bits held are the content of the fewest groups
+  -- the first bits kept are the content of the fewest groups
   pub packed-padded : take (room n) (bitsOf (startingWith (packing its))) ≡ padded its
   unfolding startingWith padded
   packed-padded =
@@ -48,6 +49,6 @@ module _ (its : List Item) (w : writable its ≡ true) where
       ∙ take-append-add (packing its) (zeros (128 - n)) (room n - n)
       ∙ ap (λ (z : List Bool). packing its ++ z) (take-zeros (room n - n) (128 - n) (omega arith))
 
-  pub packed-is-read : content (take (room n) (bitsOf ((packedOf (filled its)) .content))) ≡ holds its
+  pub packed-is-read : content (take (room n) (bitsOf ((packedOf (filled its)) .content))) ≡ gives its
   unfolding packed
   packed-is-read = ap (λ (p : Packed). content (take (room n) (bitsOf (p .content)))) packs-all ∙ ap content packed-padded ∙ written-is-read its w

@@ -9,7 +9,7 @@ use lib.Seq.{take-at, drop-at, set-at, length-take-le, append-snoc, drop-cons, g
 use lib.Dec.{eqb, leb}
 use borrow.Author.Tests.{le-leb, leb-true, eqb-true}
 use Rattle.content.specs.Packing.{zeroItem, lastZero}
-use Rattle.content.specs.Stored.{limit, noItem, itemsFrom, held, filled, listed, allZeroItems, wellPlaced}
+use Rattle.content.specs.Stored.{limit, noItem, itemsFrom, inCells, filled, listed, allZeroItems, wellPlaced}
 use Rattle.content.specs.declared.item.Item.{Item}
 use Rattle.content.specs.declared.items.Items.{Items}
 use Rattle.bits.proofs.Choice.{and-left, and-right}
@@ -137,16 +137,16 @@ items-set (l ∷ v ∷ cells) (suc n) i h =
     ∙ ap (λ (its : List Item). record { label = l; value = v } ∷ its) (items-set cells n i (omega arith))
 
 -- zero cells hold no items
-pub held-none : held 0 (replicate (2 * limit) 0) ≡ filled []
+pub none-in-cells : inCells 0 (replicate (2 * limit) 0) ≡ filled []
 unfolding itemsFrom filled
-held-none = refl
+none-in-cells = refl
 
 -- one item more, in the cells of the first unused place
-pub put-item : (n : ℕ) (cells : List ℕ) (i : Item) → n < limit → 2 * n + 1 < length cells → filled (listed (held n cells)) ≡ held n cells
-    → held (n + 1) (set (set cells (2 * n) (i .label)) (2 * n + 1) (i .value)) ≡ filled (listed (held n cells) ++ (i ∷ []))
+pub put-item : (n : ℕ) (cells : List ℕ) (i : Item) → n < limit → 2 * n + 1 < length cells → filled (listed (inCells n cells)) ≡ inCells n cells
+    → inCells (n + 1) (set (set cells (2 * n) (i .label)) (2 * n + 1) (i .value)) ≡ filled (listed (inCells n cells) ++ (i ∷ []))
 put-item n cells i h k e =
     ap (λ (p : List Item). let s : Items = record { count = n + 1; places = p } in s) (items-set cells n i k)
-    ∙ pushed-places (held n cells) i h e
+    ∙ pushed-places (inCells n cells) i h e
 
 -- items that are filled from a list are filled from their own
 pub refilled : (its : List Item) (s : Items) → s ≡ filled its → filled (listed s) ≡ s

@@ -11,16 +11,15 @@ use borrow.Author.Tests.{le-leb, lt-leb}
 use Rattle.bits.specs.Bits.{bits}
 use Rattle.bits.proofs.Value.{length-bits}
 use Rattle.content.specs.Widths.{labelWidth, width}
-use Rattle.content.specs.FirstLaw.{either}
 use Rattle.content.specs.Packing.{zeros, itemBits, packing, itemFits, allFit, longest, packable}
-use Rattle.content.specs.Held.{bitsOf, contentOf, startingWith}
+use Rattle.content.specs.Halves.{bitsOf, contentOf, startingWith}
 use Rattle.content.specs.Answers.{packed, unpacked, packedIf}
 use Rattle.content.specs.declared.content.Content.{Content}
 use Rattle.content.specs.declared.item.Item.{Item}
 use Rattle.content.specs.declared.pack.Packed.{Packed}
 use Rattle.content.specs.declared.pack.PackAnswer.{PackAnswer}
 use Rattle.content.specs.declared.pack.PackAnswer.the-variants as packAnswer
-use Rattle.bits.proofs.Choice.{and-right}
+use Rattle.bits.proofs.Choice.{either, and-right}
 use Rattle.content.proofs.Zeros.{take-zeros}
 use Rattle.content.proofs.Halves.{bitsOf-contentOf}
 use Rattle.content.proofs.Packings.{length-packing}

@@ -5,11 +5,10 @@ use mathlib.Core.Path.{_≡_, refl, sym, ap, _∙_}
 use mathlib.Core.Bool.{Bool, true, false}
 use mathlib.Core.List.{List, [], _∷_, _++_, append-assoc, append-nil}
 use Rattle.bits.specs.Bits.{allZero}
+use Rattle.bits.specs.Outcome.{gives, refused}
 use Rattle.content.specs.Widths.{labelWidth}
-use Rattle.content.specs.Items.{item, unfit, first, Reading, holds, refused, prepend, items}
-use Rattle.content.specs.FirstLaw.{first-shorter, first-number}
-use Rattle.content.specs.ItemsLaw.{items-zero, items-unfit, items-item}
-use Rattle.content.specs.Held.{remaining}
+use Rattle.content.specs.Items.{item, unfit, first, Reading, prepend, items}
+use Rattle.content.specs.Halves.{remaining}
 use Rattle.content.specs.Answers.{firstOf, leftOf, appended, readingOf, Told}
 use Rattle.content.specs.declared.item.Item.{Item}
 use Rattle.content.specs.declared.items.Items.{Items}
@@ -18,20 +17,19 @@ use Rattle.content.specs.declared.read.ReadAnswer.the-variants as readAn
 use Rattle.content.specs.declared.rest.Rest.{Rest}
 use Rattle.content.specs.declared.rest.Taken.{Taken}
 use Rattle.content.specs.declared.rest.Taken.the-variants as taken
+use Rattle.content.proofs.ItemsLaw.{items-zero, items-unfit, items-item}
+use Rattle.content.proofs.FirstLaw.{first-shorter, first-number}
 use Rattle.content.proofs.Remaining.{length-remaining}
 
 appended-after : (found : List Item) (i : Item) (r : Reading) → appended (found ++ (i ∷ [])) r ≡ appended found (prepend i r)
-unfolding appended prepend
-appended-after found i (holds its) = ap holds (append-assoc found (i ∷ []) its)
+appended-after found i (gives its) = ap gives (append-assoc found (i ∷ []) its)
 appended-after found i (refused n) = refl
 
 module _ (found : List Item) (l : List Bool) where
-  pub found-all : allZero l ≡ true → appended found (items l) ≡ holds found
-  unfolding appended
-  found-all z = ap (appended found) (items-zero l z) ∙ ap holds (append-nil found)
+  pub found-all : allZero l ≡ true → appended found (items l) ≡ gives found
+  found-all z = ap (appended found) (items-zero l z) ∙ ap gives (append-nil found)
 
   pub found-refused : (n : ℕ) → allZero l ≡ false → first l ≡ unfit n → appended found (items l) ≡ refused n
-  unfolding appended
   found-refused n z e = ap (appended found) (items-unfit l n z e)
 
   pub found-one : (i : Item) (rest : List Bool) → allZero l ≡ false → first l ≡ item i rest → appended found (items l) ≡ appended (found ++ (i ∷ [])) (items rest)
@@ -61,18 +59,17 @@ module _ (r : Rest) (x : Taken) (e : firstOf x ≡ first (remaining r)) where
         omega arith
 
 pub found-none : (r : Reading) → appended [] r ≡ r
-unfolding appended
-found-none (holds its) = refl
+found-none (gives its) = refl
 found-none (refused n) = refl
 
 -- what the number that the reader answers tells
 module _ (r : ℕ) (s : Items) where
   pub told-read : (x : Reading) → Told x r s → r ≡ 0 → record { answer = readAnswer.Read; items = s } ≡ readingOf x
   unfolding Told readingOf
-  told-read (holds its) t z = ap (λ (y : Items). let a : read.Reading = record { answer = readAnswer.Read; items = y } in a) (t .1)
+  told-read (gives its) t z = ap (λ (y : Items). let a : read.Reading = record { answer = readAnswer.Read; items = y } in a) (t .1)
   told-read (refused n) t z = absurd (omega arith)
 
   pub told-refused : (x : Reading) → Told x r s → (r ≡ 0 → ⊥) → refused r ≡ x
   unfolding Told
-  told-refused (holds its) t z = absurd (z (t .0))
+  told-refused (gives its) t z = absurd (z (t .0))
   told-refused (refused n) t z = ap refused (t .0)

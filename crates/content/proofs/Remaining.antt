@@ -1,16 +1,15 @@
 -- The laws of the bits that are left.
-use Prim.Native.Nat.{ℕ, _+_, _-_, _^_, _<_, _≤_}
+use Prim.Native.Nat.{ℕ, _+_, _-_, _<_, _≤_}
 use native.Mathlib.Omega.{arith}
-use mathlib.Core.Path.{_≡_, sym, ap, ap₂, subst, _∙_}
-use mathlib.Core.Bool.{Bool, false}
-use mathlib.Core.List.{List, _++_}
+use mathlib.Core.Path.{_≡_, sym, ap, ap₂, _∙_}
+use mathlib.Core.Bool.{false}
+use mathlib.Core.List.{_++_}
 use lib.ListN.{length, take, drop, length-append, length-drop, length-replicate}
 use lib.Seq.{length-take-le, take-take, take-append-le}
-use Rattle.bits.specs.Bits.{bits, val}
-use Rattle.bits.proofs.Value.{val-lt}
+use Rattle.bits.specs.Bits.{bits}
 use Rattle.bits.proofs.Stretch.{drop-take}
 use Rattle.content.specs.Packing.{zeros}
-use Rattle.content.specs.Held.{bitsOf, contentOf, remaining}
+use Rattle.content.specs.Halves.{bitsOf, contentOf, remaining}
 use Rattle.content.specs.declared.rest.Rest.{Rest}
 use Rattle.content.proofs.Halves.{length-bitsOf, bitsOf-contentOf}
 
@@ -35,7 +34,3 @@ drop-remaining r w h g =
     ∙ take-append-le (r .left - w) (drop w l) (zeros w) (omega arith)
     ∙ sym (drop-take w (r .left - w) l)
     ∙ ap (λ (m : ℕ). drop w (take m l)) s
-
--- the number that w bits are
-pub val-lt-width : (l : List Bool) (w : ℕ) → w ≤ length l → val (take w l) < 2 ^ w
-val-lt-width l w h = subst (λ (n : ℕ). val (take w l) < 2 ^ n) (length-take-le w l h) (val-lt (take w l))

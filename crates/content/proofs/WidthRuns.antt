@@ -6,8 +6,7 @@ use mathlib.Core.Bool.{Bool, true, _&&_}
 use lib.Dec.{eqb}
 use borrow.Author.Tests.{eqb-true, eqb-false}
 use Rattle.content.specs.Widths.{widths, width}
-use Rattle.content.specs.FirstLaw.{either}
-use Rattle.bits.proofs.Choice.{and-left, and-right}
+use Rattle.bits.proofs.Choice.{either, and-left, and-right}
 
 -- n labels from lo on have width w
 abbrev run : ℕ → ℕ → ℕ → Bool

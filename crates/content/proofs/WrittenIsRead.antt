@@ -8,19 +8,21 @@ use lib.ListN.{length, length-append, length-replicate}
 use lib.Dec.{leb}
 use borrow.Author.Tests.{leb-true, not-true}
 use Rattle.bits.specs.Bits.{allZero}
-use Rattle.content.specs.Items.{first, holds, prepend, items, contentLength, content}
-use Rattle.content.specs.ItemsLaw.{items-zero, items-item}
+use Rattle.bits.specs.Outcome.{gives}
+use Rattle.content.specs.Items.{first, prepend, items}
+use Rattle.content.specs.Content.{contentLength, content}
 use Rattle.content.specs.Packing.{zeros, packing, itemFits, allFit, lastZero, longest, packable, writable, room, padded}
 use Rattle.content.specs.declared.item.Item.{Item}
 use Rattle.bits.proofs.Choice.{and-left, and-right}
+use Rattle.content.proofs.ItemsLaw.{items-zero, items-item}
 use Rattle.content.proofs.Zeros.{allZero-zeros}
 use Rattle.content.proofs.Lengths.{content-items, room-enough, room-length}
 use Rattle.content.proofs.OneItem.{first-itemBits}
 use Rattle.content.proofs.Packings.{packing-append, packing-set, lastZero-tail}
 
 -- with zero bits after them, however many
-pub packing-read : (its : List Item) (z : List Bool) → allFit its ≡ true → lastZero its ≡ false → allZero z ≡ true → items (packing its ++ z) ≡ holds its
-unfolding packing allFit prepend
+pub packing-read : (its : List Item) (z : List Bool) → allFit its ≡ true → lastZero its ≡ false → allZero z ≡ true → items (packing its ++ z) ≡ gives its
+unfolding packing allFit
 packing-read [] z f h n = items-zero z n
 packing-read (i ∷ its) z f h n =
     items-item (packing (i ∷ its) ++ z) i (packing its ++ z) (packing-set i its z f h)
@@ -53,7 +55,7 @@ length-padded its =
     let e : n + (room n - n) ≡ room n = omega arith in
     length-append (packing its) (zeros (room n - n)) ∙ ap (λ (m : ℕ). n + m) (length-replicate (room n - n) false) ∙ e
 
-pub written-is-read : (its : List Item) → writable its ≡ true → content (padded its) ≡ holds its
+pub written-is-read : (its : List Item) → writable its ≡ true → content (padded its) ≡ gives its
 unfolding padded
 written-is-read its w =
     let n = length (packing its) in

@@ -4,9 +4,10 @@ use mathlib.Core.Path.{_≡_}
 use mathlib.Core.Bool.{Bool, true, false, _&&_}
 use mathlib.Core.List.{List, [], _++_}
 use lib.ListN.{length}
-use Rattle.content.specs.Items.{First, item, unfit, Reading, holds, refused}
+use Rattle.bits.specs.Outcome.{gives, refused, mapped}
+use Rattle.content.specs.Items.{First, item, unfit, Reading}
 use Rattle.content.specs.Packing.{packing, writable}
-use Rattle.content.specs.Held.{startingWith, remaining}
+use Rattle.content.specs.Halves.{startingWith, remaining}
 use Rattle.content.specs.Stored.{filled, listed, wellPlaced}
 use Rattle.content.specs.declared.item.Item.{Item}
 use Rattle.content.specs.declared.items.Items.{Items}
@@ -15,6 +16,7 @@ use Rattle.content.specs.declared.rest.Taken.the-variants as taken
 use Rattle.content.specs.declared.read.Reading as read
 use Rattle.content.specs.declared.read.ReadAnswer.the-variants as readAnswer
 use Rattle.content.specs.declared.pack.Packed.{Packed}
+use Rattle.content.specs.declared.pack.PackAnswer.{PackAnswer}
 use Rattle.content.specs.declared.pack.PackAnswer.the-variants as packAnswer
 
 -- what taking one item answers
@@ -28,18 +30,17 @@ leftOf (taken.Item i rest) = rest .left
 leftOf (taken.Refused n) = 0
 
 -- items before those of a reading
-unfoldable pub appended : List Item → Reading → Reading
-appended before (holds its) = holds (before ++ its)
-appended before (refused n) = refused n
+abbrev pub appended : List Item → Reading → Reading
+appended before = mapped (λ its. before ++ its)
 
 -- what the reader answers; on a refusal there are no items
 unfoldable pub readingOf : Reading → read.Reading
-readingOf (holds its) = record { answer = readAnswer.Read; items = filled its }
+readingOf (gives its) = record { answer = readAnswer.Read; items = filled its }
 readingOf (refused n) = record { answer = readAnswer.Refused n; items = filled [] }
 
--- what the number that reading into cells answers tells of the items then held: 0, they are those read; else it is the refusal's
+-- what the number that reading into cells answers tells of the items in them then: 0, they are those read; else it is the refusal's
 unfoldable pub Told : Reading → ℕ → Items → Type 0
-Told (holds its) r s = (r ≡ 0) × (s ≡ filled its)
+Told (gives its) r s = (r ≡ 0) × (s ≡ filled its)
 Told (refused n) r s = (r ≡ n) × (0 < n)
 
 -- items packed: how many bits, and the bits
@@ -58,3 +59,8 @@ packedIf false its = unpacked 9
 -- what the packer answers
 unfoldable pub packedOf : Items → Packed
 packedOf s = packedIf (wellPlaced s && writable (listed s)) (listed s)
+
+-- the number of bits that the packer tells, 0 on a refusal
+unfoldable pub bitsPacked : PackAnswer → ℕ
+bitsPacked (packAnswer.Packed n) = n
+bitsPacked (packAnswer.Refused n) = 0

@@ -1,10 +1,11 @@
--- The items that content bits hold: ISO 14819-1 clause 5.5.1; document 01, "Multi-group content".
+-- The items that bits hold, however many: ISO 14819-1 clause 5.5.1; document 01, "Multi-group content".
 use Prim.Native.Nat.{ℕ, zero, suc}
 use mathlib.Core.Bool.{Bool, true, false, _||_}
 use mathlib.Core.List.{List, [], _∷_}
 use lib.ListN.{length, take, drop}
 use lib.Dec.{eqb, ltb}
 use Rattle.bits.specs.Bits.{val, allZero}
+use Rattle.bits.specs.Outcome.{Outcome, gives, refused, mapped}
 use Rattle.content.specs.Widths.{labelWidth, width, sublabelled}
 use Rattle.content.specs.declared.item.Item.{Item}
 
@@ -30,14 +31,12 @@ unfoldable pub first : List Bool → First
 first l = elim (ltb (length l) labelWidth) [ true ↦ unfit 7 | false ↦ labelled (val (take labelWidth l)) (drop labelWidth l) ]
 
 -- the items that content holds, or the refusal's number
-pub data Reading : Type 0 where
-  holds : List Item → Reading
-  refused : ℕ → Reading
+abbrev pub Reading : Type 0
+Reading = Outcome (List Item) ℕ
 
 -- an item before those of a reading
-unfoldable pub prepend : Item → Reading → Reading
-prepend i (holds its) = holds (i ∷ its)
-prepend i (refused n) = refused n
+abbrev pub prepend : Item → Reading → Reading
+prepend i = mapped (λ its. i ∷ its)
 
 -- one item, and then the reading of the rest
 unfoldable pub andThen : First → (List Bool → Reading) → Reading
@@ -46,21 +45,14 @@ andThen (unfit n) next = refused n
 
 -- all zero: no items; else one item, and then the reading of the rest
 unfoldable pub readBy : (List Bool → Reading) → List Bool → Reading
-readBy next l = elim (allZero l) [ true ↦ holds [] | false ↦ andThen (first l) next ]
+readBy next l = elim (allZero l) [ true ↦ gives [] | false ↦ andThen (first l) next ]
 
 -- the reading in at most n steps
 unfoldable pub itemsWithin : ℕ → List Bool → Reading
-itemsWithin zero = λ l. holds []
+itemsWithin zero = λ l. gives []
 itemsWithin (suc n) = readBy (itemsWithin n)
 
--- the items of content bits, by as many steps as could be needed: read it by its law, `items l ≡ readBy items l` (`items-law`)
+-- the items of bits, by as many steps as could be needed: read it by its law, `items l ≡ readBy items l` (`items-law` in
+-- proofs/ItemsLaw.antt)
 unfoldable pub items : List Bool → Reading
 items l = itemsWithin (suc (length l)) l
-
--- the content bits of two to five groups
-unfoldable pub contentLength : ℕ → Bool
-contentLength n = eqb n 28 || eqb n 56 || eqb n 84 || eqb n 112
-
--- the items of a message's whole content
-unfoldable pub content : List Bool → Reading
-content l = elim (contentLength (length l)) [ true ↦ items l | false ↦ refused 1 ]

@@ -1,8 +1,7 @@
 pub mod Widths
 pub mod Items
-pub mod FirstLaw
-pub mod ItemsLaw
 pub mod Packing
-pub mod Held
+pub mod Content
+pub mod Halves
 pub mod Stored
 pub mod Answers

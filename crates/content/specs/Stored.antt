@@ -1,4 +1,4 @@
--- How the code holds items: their number, and 28 places of which the unused ones are zero.
+-- How the code keeps items: their number, and 28 places of which the unused ones are zero.
 use Prim.Native.Nat.{ℕ, _-_}
 use mathlib.Core.Bool.{Bool, true, _&&_}
 use mathlib.Core.List.{List, [], _∷_, _++_}
@@ -23,8 +23,8 @@ itemsFrom (l ∷ []) = []
 itemsFrom (l ∷ v ∷ cells) = record { label = l; value = v } ∷ itemsFrom cells
 
 -- so many items, in the places of cells
-abbrev pub held : ℕ → List ℕ → Items
-held count cells = record { count = count; places = itemsFrom cells }
+abbrev pub inCells : ℕ → List ℕ → Items
+inCells count cells = record { count = count; places = itemsFrom cells }
 
 -- the items, and zero items up to 28
 unfoldable pub filled : List Item → Items

@@ -4,9 +4,9 @@ ghost use mathlib.Core.List.{[], _++_};
 ghost use Prim.Native.Nat.{_-_, _*_, _/_, _%_, _^_, _<_};
 ghost use lib.ListN.{take, drop};
 ghost use Rattle.bits.specs.Bits.{bits, val, allZero};
-ghost use Rattle.content.specs.Items.{contentLength};
-ghost use Rattle.content.specs.Packing.{zeros};
-ghost use Rattle.content.specs.Held.{bitsOf, contentOf, startingWith};
+ghost use Rattle.content.specs.Content.{contentLength};
+ghost use Rattle.content.specs.Packing.{zeros, groups};
+ghost use Rattle.content.specs.Halves.{bitsOf, contentOf, startingWith};
 
 pub struct Content {
     pub high: u64,
@@ -34,6 +34,17 @@ impl Content {
         (n == Self::GROUP) | (n == 2 * Self::GROUP) | (n == 3 * Self::GROUP) | (n == Self::LONGEST)
     }
 
+    // The fewest groups for n content bits: a first group, and at least one later group.
+    pub fn groups(n: usize) -> usize
+        ensures { λ r. ⌜ r ≡ groups n ⌝ }
+    {
+        if n <= Self::GROUP {
+            2
+        } else {
+            (n - 1) / Self::GROUP + 2
+        }
+    }
+
     // The first w bits as a number.
     pub fn first_bits(self, w: usize) -> u64
         requires { ⌜ w < 64 ⌝ }
@@ -43,7 +54,7 @@ impl Content {
     }
 
     // Whether the first n bits are all zero.
-    pub fn starts_zero(self, n: usize) -> bool
+    pub(crate) fn starts_zero(self, n: usize) -> bool
         requires { ⌜ n < 128 ⌝ }
         ensures { λ r. ⌜ r ≡ allZero (take n (bitsOf self)) ⌝ }
     {

@@ -3,6 +3,7 @@ ghost use mathlib.Core.Path.{_≡_};
 ghost use Rattle.content.specs.Packing.{itemFits, zeroItem};
 use crate::width::width_of;
 
+#[repr(C)]
 pub struct Item {
     // As wide as the value: a place then has no padding, and items are copied whole.
     pub label: u16,

@@ -4,10 +4,11 @@ ghost use mathlib.Core.List.{[]};
 ghost use Prim.Native.Nat.{_*_, _≤_};
 ghost use lib.ListN.{length};
 ghost use Rattle.content.specs.Packing.{lastZero};
-ghost use Rattle.content.specs.Stored.{limit, filled, listed, held, itemsFrom, wellPlaced};
+ghost use Rattle.content.specs.Stored.{limit, filled, listed, inCells, itemsFrom, wellPlaced};
 use crate::item::Item;
 
 // The places stand first: a copy of them then goes piece by piece as they were written.
+#[repr(C)]
 pub struct Items {
     pub places: [Item; Items::LIMIT],
     pub count: usize,
@@ -32,7 +33,7 @@ impl Items {
     // The items of cells.
     pub(crate) fn from_cells(count: usize, cells: &[u16; Items::CELLS]) -> Self
         requires { ⌜ length (now cells) ≡ 2 * limit ⌝ }
-        ensures { λ r. ⌜ r ≡ held count (now (cells .entry)) ⌝ }
+        ensures { λ r. ⌜ r ≡ inCells count (now (cells .entry)) ⌝ }
     {
         Items {
             count,
@@ -59,7 +60,7 @@ impl Items {
     }
 
     // Whether the last item is the zero item.
-    pub fn ends_zero(self) -> bool
+    pub(crate) fn ends_zero(self) -> bool
         requires { ⌜ self .count ≤ limit ⌝ }
         ensures { λ r. ⌜ r ≡ lastZero (listed self) ⌝ }
     {

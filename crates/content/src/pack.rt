@@ -2,7 +2,7 @@
 ghost use mathlib.Core.Path.{_≡_};
 ghost use mathlib.Core.List.{List, [], _∷_};
 ghost use Rattle.content.specs.Packing.{packable};
-ghost use Rattle.content.specs.Answers.{packedOf, packed, packedIf, unpacked};
+ghost use Rattle.content.specs.Answers.{packedOf, packed, packedIf, unpacked, bitsPacked};
 ghost use Rattle.content.specs.declared.item.Item as declared;
 use crate::content::Content;
 use crate::item::Item;
@@ -39,6 +39,18 @@ pub fn pack(items: Items) -> Packed
         packed = packed.prepended(item);
     }
     packed
+}
+
+impl PackAnswer {
+    // How many bits were packed, 0 on a refusal.
+    pub fn bits(self) -> usize
+        ensures { λ n. ⌜ n ≡ bitsPacked self ⌝ }
+    {
+        match self {
+            PackAnswer::Packed(n) => n,
+            PackAnswer::Refused(_) => 0,
+        }
+    }
 }
 
 impl Packed {

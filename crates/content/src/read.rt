@@ -2,10 +2,12 @@
 ghost use mathlib.Core.Path.{_≡_};
 ghost use Prim.Native.Nat.{_+_, _*_, _≤_};
 ghost use lib.ListN.{length, take};
-ghost use Rattle.content.specs.Items.{refused, items, content};
+ghost use Rattle.bits.specs.Outcome.{refused};
+ghost use Rattle.content.specs.Items.{items};
+ghost use Rattle.content.specs.Content.{content, contentPart};
 ghost use Rattle.content.specs.Packing.{longest};
-ghost use Rattle.content.specs.Held.{bitsOf, remaining};
-ghost use Rattle.content.specs.Stored.{limit, filled, listed, held};
+ghost use Rattle.content.specs.Halves.{bitsOf, remaining};
+ghost use Rattle.content.specs.Stored.{limit, filled, listed, inCells};
 ghost use Rattle.content.specs.Answers.{appended, readingOf, Told};
 use crate::content::Content;
 use crate::items::Items;
@@ -24,11 +26,23 @@ pub struct Reading {
     pub items: Items,
 }
 
-// Reads the first `length` bits: 1 for a length that no groups give, 7 where bits of an item are missing, 8 at label 15.
+// Reads the first `length` bits as a message's whole content: 1 for a length that no groups give, 7 where bits of an item are missing, 8 at
+// label 15.
 pub fn read(c: Content, length: usize) -> Reading
     ensures { λ r. ⌜ r ≡ readingOf (content (take length (bitsOf c))) ⌝ }
 {
-    if !Content::is_length(length) {
+    if Content::is_length(length) {
+        read_part(c, length)
+    } else {
+        Reading::refused(1)
+    }
+}
+
+// Reads the first `length` bits as part of a content: 1 if they are more than the longest content has, else as above.
+pub fn read_part(c: Content, length: usize) -> Reading
+    ensures { λ r. ⌜ r ≡ readingOf (contentPart (take length (bitsOf c))) ⌝ }
+{
+    if Content::LONGEST < length {
         return Reading::refused(1);
     }
     let mut count = 0;
@@ -51,9 +65,9 @@ pub fn read(c: Content, length: usize) -> Reading
 // The items found, and then those of the rest: one item and then the reading of the rest after one item. Answers the refusal's number, or 0.
 // The items go into lent cells: a struct by value would be copied at each turn.
 fn read_rest(rest: Rest, count: &mut usize, cells: &mut [u16; Items::CELLS]) -> u8
-    requires { ⌜ (length (now cells) ≡ 2 * limit) × (4 * now count + rest .left ≤ longest) × (filled (listed (held (now count) (now cells))) ≡ held (now count) (now cells)) ⌝ }
+    requires { ⌜ (length (now cells) ≡ 2 * limit) × (4 * now count + rest .left ≤ longest) × (filled (listed (inCells (now count) (now cells))) ≡ inCells (now count) (now cells)) ⌝ }
     ensures { λ _. ⌜ length (now (cells .exit)) ≡ 2 * limit ⌝ }
-    ensures { λ r. ⌜ Told (appended (listed (held (now (count .entry)) (now (cells .entry)))) (items (remaining rest))) r (held (now (count .exit)) (now (cells .exit))) ⌝ }
+    ensures { λ r. ⌜ Told (appended (listed (inCells (now (count .entry)) (now (cells .entry)))) (items (remaining rest))) r (inCells (now (count .exit)) (now (cells .exit))) ⌝ }
 {
     if rest.is_zero() {
         return 0;

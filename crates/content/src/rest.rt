@@ -4,7 +4,7 @@ ghost use Prim.Native.Nat.{_-_, _<_, _≤_};
 ghost use lib.ListN.{take, drop};
 ghost use Rattle.bits.specs.Bits.{val, allZero};
 ghost use Rattle.content.specs.Items.{first};
-ghost use Rattle.content.specs.Held.{remaining};
+ghost use Rattle.content.specs.Halves.{remaining};
 ghost use Rattle.content.specs.Answers.{firstOf, leftOf};
 use crate::content::Content;
 use crate::item::Item;

@@ -44,19 +44,19 @@ put-then a t u l h p q = (
 -- of a text t that goes to a in l, the rest is still to go to p in m
 pub record Left (a : ℕ) (t l rest : List ℕ) (p : ℕ) (m : List ℕ) : Type 0 where
   pub whole : put p rest m ≡ put a t l
-  pub place : p + length rest ≡ a + length t
+  pub position : p + length rest ≡ a + length t
   pub same : length m ≡ length l
 
 pub left-all : (a : ℕ) (t l : List ℕ) → Left a t l t a l
-left-all a t l = record { whole = refl; place = refl; same = refl }
+left-all a t l = record { whole = refl; position = refl; same = refl }
 
 pub left-more : (a : ℕ) (t l u rest : List ℕ) (p e : ℕ) (m n : List ℕ) → p ≤ length m → Left a t l (u ++ rest) p m → Put p u m e n → length n ≡ length m → Left a t l rest e n
 left-more a t l u rest p e m n h left q k =
     record {
       whole = ap₂ (λ (x : ℕ) (y : List ℕ). put x rest y) (q .0) (q .1) ∙ put-append p u rest m h ∙ left .whole;
-      place = omega (arith, q .0, left .place, length-append u rest);
+      position = omega (arith, q .0, left .position, length-append u rest);
       same = k ∙ left .same;
     }
 
 pub left-none : (a : ℕ) (t l : List ℕ) (p : ℕ) (m : List ℕ) → Left a t l [] p m → Put a t l p m
-left-none a t l p m left = (omega (arith, left .place), sym (put-none p m) ∙ left .whole)
+left-none a t l p m left = (omega (arith, left .position), sym (put-none p m) ∙ left .whole)

@@ -11,6 +11,8 @@ use Rattle.word.specs.declared.Word.{Word}
 use Rattle.word.specs.declared.Word.the-variants.{Single, First, Later, Tuning, Administration, Index7, Beyond}
 use Rattle.word.specs.Kind.{kindOf}
 use Rattle.word.proofs.Word as word
+use Rattle.report.specs.declared.Report.{Report}
+use Rattle.transmission.specs.Reading.{ReadsMulti}
 use Rattle.assembler.specs.declared.Assembler.{Assembler}
 use Rattle.assembler.specs.declared.Answer.{Answer}
 use Rattle.assembler.specs.declared.Answer.the-variants as answer
@@ -40,15 +42,15 @@ no-beginning (Index7 n) k = refl
 no-beginning (Beyond n) k = refl
 
 -- the first word decides, by what was found of the state, of the word's kind k and of the step s, and then the rest
-pub whole-next : (a : Assembler) (ws : List ℕ) (i : ℕ) (e b t v : Bool) (k : Word) (s : Step) → i < length ws
-    → e ≡ isEmpty a → k ≡ kindOf (getD ws i 0) → b ≡ begins k → s ≡ stepOf a (getD ws i 0) → t ≡ isTaken (s .answer) → (e || not b) && t ≡ v
-    → wholeFrom a (drop i ws) ≡ v && wholeFrom (s .next) (drop (suc i) ws)
+pub whole-next : (read : ReadsMulti Report) (a : Assembler) (ws : List ℕ) (i : ℕ) (e b t v : Bool) (k : Word) (s : Step) → i < length ws
+    → e ≡ isEmpty a → k ≡ kindOf (getD ws i 0) → b ≡ begins k → s ≡ stepOf read a (getD ws i 0) → t ≡ isTaken (s .answer) → (e || not b) && t ≡ v
+    → wholeFrom read a (drop i ws) ≡ v && wholeFrom read (s .next) (drop (suc i) ws)
 unfolding wholeFrom passes
-whole-next a ws i e b t v k s h he hk hb hs ht hv =
+whole-next read a ws i e b t v k s h he hk hb hs ht hv =
     let n = getD ws i 0 in
-    let same : passes a n ≡ v =
+    let same : passes read a n ≡ v =
     sym (ap₂ (λ (x y : Bool). (x || not y) && t) he (hb ∙ ap begins hk)
     ∙ ap (λ (x : Bool). (isEmpty a || not (begins (kindOf n))) && x) (ht ∙ ap (λ (x : Step). isTaken (x .answer)) hs))
     ∙ hv in
-    ap (wholeFrom a) (drop-cons ws i 0 h)
-    ∙ ap₂ (λ (x : Bool) (y : Step). x && wholeFrom (y .next) (drop (suc i) ws)) same (sym hs)
+    ap (wholeFrom read a) (drop-cons ws i 0 h)
+    ∙ ap₂ (λ (x : Bool) (y : Step). x && wholeFrom read (y .next) (drop (suc i) ws)) same (sym hs)

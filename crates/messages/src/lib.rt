@@ -1,5 +1,6 @@
 // Whether user words are whole messages.
 ghost use mathlib.Core.Path.{_≡_};
+ghost use Rattle.report.specs.Read.{readReport};
 ghost use Rattle.messages.specs.Messages.{isEmpty, isTaken, begins, whole};
 use assembler::Answer;
 use assembler::Assembler;
@@ -7,7 +8,7 @@ use word::Word;
 
 // Whether a fresh assembler refuses none of the words, drops no open message and ends with none open.
 pub fn are_whole(words: &[u64]) -> bool
-    ensures { λ r. ⌜ r ≡ whole (now (words .entry)) ⌝ }
+    ensures { λ r. ⌜ r ≡ whole readReport (now (words .entry)) ⌝ }
 {
     let mut state = Assembler::new();
     let mut i = 0;

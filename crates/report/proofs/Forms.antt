@@ -1,7 +1,7 @@
 -- A report that can be written, by its form.
 use Prim.Native.Nat.{ℕ}
 use mathlib.Core.Path.{_≡_, sym, ap, _∙_}
-use mathlib.Core.Bool.{Bool, true, false, _&&_}
+use mathlib.Core.Bool.{true, false}
 use mathlib.Core.List.{List}
 use lib.ListN.{length}
 use Rattle.bits.proofs.Choice.{and-left, and-right, chosen, passed-over}

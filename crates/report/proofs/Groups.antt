@@ -1,18 +1,16 @@
 -- The later groups of a report, one after the other.
-use Prim.Native.Nat.{ℕ, zero, suc, _+_, _-_, _*_, _^_, _≤_, _<_, max, _/_}
-use mathlib.Core.Path.{_≡_, refl, sym, ap, ap₂, subst, _∙_}
-use mathlib.Core.Bool.{Bool, true, false, _&&_}
+use Prim.Native.Nat.{ℕ, suc, _+_, _-_, _*_, _^_, _≤_, _<_}
+use mathlib.Core.Path.{_≡_, refl, sym, ap, ap₂, _∙_}
+use mathlib.Core.Bool.{Bool, true, false}
 use mathlib.Core.List.{List, [], _∷_, _++_, append-assoc, append-nil}
-use native.Mathlib.Nat.{zero-mul, suc-mul, add-comm}
 use native.Mathlib.Omega.{arith}
-use lib.ListN.{length, take, drop, set, getD, replicate, length-append, length-drop, replicate-append-replicate}
-use lib.Seq.{take-append-le, drop-append-le, drop-drop, drop-cons, set-at, append-snoc, drop-length, length-take-le}
+use lib.ListN.{length, take, drop, set, getD, length-append, length-drop, replicate-append-replicate}
+use lib.Seq.{take-append-le, drop-append-le, drop-drop, drop-cons, set-at, append-snoc, drop-length}
 use lib.Dec.{leb}
 use borrow.Author.Tests.{leb-true, lt-ltb}
 use Rattle.bits.specs.Bits.{val}
 use Rattle.bits.specs.Fields.{words, pack, fits}
 use Rattle.bits.proofs.Choice.{and-right}
-use Rattle.bits.proofs.Value.{val-lt}
 use Rattle.bits.proofs.Fields.{length-words}
 use Rattle.word.specs.Format.{laterFormat}
 use Rattle.word.specs.Compose.{laterValues, isIndex}
@@ -106,10 +104,6 @@ module _ (ci : ℕ) (out₀ : List ℕ) (b : List Bool) where
               ∙ ap₂ (λ (t u : List Bool). t ++ u) d' (replicate-append-replicate (i * groupBits) groupBits false ∙ ap zeros step);
           marked = omega arith;
         }
-
--- 28 bits make a number below 2 ^ 28
-pub group-lt : (l : List Bool) → length l ≡ 128 → val (take groupBits l) < 2 ^ groupBits
-group-lt l e = subst (λ (n : ℕ). val (take groupBits l) < 2 ^ n) (length-take-le groupBits l (omega arith)) (val-lt (take groupBits l))
 
 -- the fields of a later group are in their ranges
 pub later-fits : (ci mark gsi content : ℕ) → isIndex ci ≡ true → mark < 2 → gsi < 4 → content < 2 ^ groupBits → fits laterFormat (laterValues ci mark gsi content) ≡ true

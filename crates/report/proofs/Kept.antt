@@ -1,6 +1,6 @@
 -- The content of a report as the table keeps it.
 use Prim.Native.Nat.{ℕ, zero, suc, _+_, _-_, _*_, _/_, _^_, _≤_, _<_}
-use mathlib.Core.Path.{_≡_, refl, sym, ap, ap₂, subst, _∙_}
+use mathlib.Core.Path.{_≡_, refl, sym, ap, ap₂, _∙_}
 use mathlib.Core.Bool.{Bool, true, false, _&&_}
 use mathlib.Core.List.{List, [], _∷_, _++_, append-nil}
 use native.Mathlib.Nat.{suc-mul, zero-mul, add-comm, suc-add, zero-add}
@@ -18,13 +18,12 @@ use Rattle.bits.proofs.Fields.{length-words}
 use Rattle.word.specs.Format.{headFormat}
 use Rattle.word.specs.Compose.{singleValues}
 use Rattle.content.specs.declared.content.Content.{Content}
-use Rattle.content.specs.declared.item.Item.{Item}
 use Rattle.content.specs.declared.items.Items.{Items}
 use Rattle.content.specs.declared.pack.Packed.{Packed}
-use Rattle.content.specs.Held.{bitsOf, contentOf, startingWith}
-use Rattle.content.specs.Packing.{zeros, groups, longest, packing, allFit, packable, lastZero, writable}
+use Rattle.content.specs.Halves.{bitsOf, startingWith}
+use Rattle.content.specs.Packing.{zeros, longest, packing, allFit, packable, lastZero, writable}
 use Rattle.content.specs.Stored.{listed, wellPlaced}
-use Rattle.content.specs.Answers.{packed, packedOf}
+use Rattle.content.specs.Answers.{packed, packedOf, bitsPacked}
 use Rattle.content.proofs.Halves.{bitsOf-contentOf}
 use Rattle.content.proofs.Zeros.{take-zeros}
 use Rattle.content.proofs.WrittenIsRead.{packable-short, writable-packable}
@@ -32,9 +31,8 @@ use Rattle.report.specs.declared.Report.{Report}
 use Rattle.report.specs.declared.Form.{Form}
 use Rattle.report.specs.declared.Form.the-variants.{Single, Multi}
 use Rattle.report.specs.declared.Packing.the-variants.{Groups, Refused}
-use Rattle.report.specs.Fits.{singleFits, itemsFit, multiFits, fitsBy, reportFits}
-use Rattle.report.specs.Write.{laterGroups}
-use Rattle.report.specs.Record.{contentBytes, bytesOf, groupsBy, groupsFor, groupsOf, packReport, bytesAfter}
+use Rattle.report.specs.Fits.{singleFits, itemsFit, fitsBy, reportFits}
+use Rattle.report.specs.Record.{contentBytes, bytesOf, groupsFor, groupsOf, packReport, bytesAfter}
 use Rattle.report.proofs.Multi.{words-take, items-fit, fit-writable, fit-packed}
 
 pub words-append : (w m n : ℕ) (l : List Bool) → words w (m + n) l ≡ words w m l ++ words w n (drop (m * w) l)
@@ -103,30 +101,19 @@ report-items r h = by-form (r .form) h
     by-form Multi e = items-fit 0 r e
 
 module _ (r : Report) (fit : reportFits r ≡ true) where
-  its-short : length (packing (listed (r .items))) ≤ longest
-  its-short = packable-short (listed (r .items)) (writable-packable (listed (r .items)) (fit-writable (r .items) (report-items r fit)))
+  pub kept-short : length (packing (listed (r .items))) ≤ longest
+  kept-short = packable-short (listed (r .items)) (writable-packable (listed (r .items)) (fit-writable (r .items) (report-items r fit)))
 
-  later-is : laterGroups (packedOf (r .items) .answer) ≡ groups (length (packing (listed (r .items)))) - 1
-  unfolding laterGroups packed
-  later-is = ap (λ (p : Packed). laterGroups (p .answer)) (fit-packed (r .items) (report-items r fit))
-
-  pub kept-few : laterGroups (packedOf (r .items) .answer) ≤ 4
-  kept-few = let short = its-short in omega (arith, later-is)
-
-  pub kept-groups : groupsFor (r .form) (packedOf (r .items) .answer) ≡ groupsOf r
-  unfolding groupsOf
-  kept-groups = by-form (r .form)
-    where
-      by-form : (f : Form) → groupsFor f (packedOf (r .items) .answer) ≡ groupsBy f (listed (r .items))
-      by-form Single = unfold groupsFor groupsBy in refl
-      by-form Multi = unfold groupsFor groupsBy in omega (arith, later-is)
+  pub kept-groups : groupsFor (r .form) (bitsPacked (packedOf (r .items) .answer)) ≡ groupsOf r
+  unfolding groupsOf bitsPacked packed
+  kept-groups = ap (λ (p : Packed). groupsFor (r .form) (bitsPacked (p .answer))) (fit-packed (r .items) (report-items r fit))
 
   pub kept-bytes : words 8 contentBytes (bitsOf (packedOf (r .items) .content)) ≡ bytesOf (listed (r .items))
   unfolding bytesOf packed startingWith
   kept-bytes =
       let l = packing (listed (r .items)) in
       let n = length l in
-      let short = its-short in
+      let short = kept-short in
       let size : n + (128 - n) ≡ 128 = omega arith in
       let cut : longest ≡ n + (longest - n) = omega arith in
       let wide : length (l ++ zeros (128 - n)) ≡ 128 = length-append l (zeros (128 - n)) ∙ ap (λ (m : ℕ). n + m) (length-replicate (128 - n) false) ∙ size in

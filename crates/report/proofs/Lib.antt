@@ -7,4 +7,4 @@ pub mod Multi
 pub mod Forms
 pub mod Kept
 pub mod WayBack
-pub mod Examples
+pub mod Outcomes

@@ -1,40 +1,41 @@
 -- What the reading of content says of the report.
 use Prim.Native.Nat.{ℕ, _≤_, _<_, _^_}
-use mathlib.Core.Path.{_≡_, refl, sym, ap, ap₂, subst, _∙_}
+use mathlib.Core.Path.{_≡_, refl, sym, ap, subst, _∙_}
 use mathlib.Core.Bool.{Bool, true, false, cond}
 use mathlib.Core.List.{List, [], _∷_}
 use native.Mathlib.Omega.{arith}
-use lib.ListN.{length}
 use lib.Dec.{ltb, eqb}
 use borrow.Author.Tests.{eqb-true, ltb-true}
+use Rattle.bits.specs.Outcome.{gives, refused}
 use Rattle.bits.proofs.Choice.{and-left, and-right, chosen, passed-over}
 use Rattle.content.specs.declared.item.Item.{Item}
 use Rattle.content.specs.declared.items.Items.{Items}
 use Rattle.content.specs.declared.read.Reading as struct
 use Rattle.content.specs.declared.read.ReadAnswer.the-variants as answer
 use Rattle.content.specs.Widths.{widths, width, sublabelled}
-use Rattle.content.specs.Items.{Reading, holds, refused, content}
-use Rattle.content.specs.Packing.{itemFits, allFit, writable}
+use Rattle.content.specs.Items.{Reading}
+use Rattle.content.specs.Content.{content}
+use Rattle.content.specs.Packing.{itemFits, allFit}
 use Rattle.content.specs.Stored.{limit, filled, listed}
 use Rattle.content.specs.Answers.{readingOf}
 use Rattle.content.proofs.AtMost28.{at-most-28}
-use Rattle.content.proofs.ReadIsWritten.{read-is-writable}
+use Rattle.content.proofs.ReadIsWritten.{content-short, content-holds, items-writable}
 use Rattle.content.proofs.WrittenIsRead.{packable-fits, writable-packable}
 use Rattle.content.proofs.Places.{listed-filled}
 use Rattle.report.specs.Report.{firstWhere, durationOf}
 
--- content that was read holds the items of the answer
-pub record Held (l : List Bool) (s : Items) : Type 0 where
+-- content that was read, and the items of the answer
+pub record ReadItems (l : List Bool) (s : Items) : Type 0 where
   pub its : List Item
-  pub holds-them : content l ≡ holds its
+  pub reading : content l ≡ gives its
   pub stored : s ≡ filled its
 
-pub read-held : (l : List Bool) (r : struct.Reading) → r ≡ readingOf (content l) → r .answer ≡ answer.Read → Held l (r .items)
+pub read-items : (l : List Bool) (r : struct.Reading) → r ≡ readingOf (content l) → r .answer ≡ answer.Read → ReadItems l (r .items)
 unfolding readingOf
-read-held l r e a = by-reading (content l) refl
+read-items l r e a = by-reading (content l) refl
   where
-    by-reading : (x : Reading) → content l ≡ x → Held l (r .items)
-    by-reading (holds its) h = record { its = its; holds-them = h; stored = ap (λ (y : struct.Reading). y .items) (e ∙ ap readingOf h) }
+    by-reading : (x : Reading) → content l ≡ x → ReadItems l (r .items)
+    by-reading (gives its) h = record { its = its; reading = h; stored = ap (λ (y : struct.Reading). y .items) (e ∙ ap readingOf h) }
     by-reading (refused n) h =
         let b : answer.Refused n ≡ answer.Read = sym (ap (λ (y : struct.Reading). y .answer) (e ∙ ap readingOf h)) ∙ a in
         let z : _≡_ {A = ℕ} 0 1 = cc in
@@ -46,7 +47,7 @@ unfolding readingOf
 read-refused l r n e a = by-reading (content l) refl
   where
     by-reading : (x : Reading) → content l ≡ x → content l ≡ refused n
-    by-reading (holds its) h =
+    by-reading (gives its) h =
         let b : answer.Read ≡ answer.Refused n = sym (ap (λ (y : struct.Reading). y .answer) (e ∙ ap readingOf h)) ∙ a in
         let z : _≡_ {A = ℕ} 0 1 = cc in
         absurd (omega arith)
@@ -55,19 +56,19 @@ read-refused l r n e a = by-reading (content l) refl
         h ∙ ap refused (cc)
 
 -- the items that are read are at most 28, and in range
-module _ (l : List Bool) (s : Items) (h : Held l s) where
-  pub held-listed : listed s ≡ h .its
-  held-listed = ap listed (h .stored) ∙ listed-filled (h .its)
+module _ (l : List Bool) (s : Items) (h : ReadItems l s) where
+  pub items-listed : listed s ≡ h .its
+  items-listed = ap listed (h .stored) ∙ listed-filled (h .its)
 
-  pub held-count : s .count ≤ limit
+  pub items-count : s .count ≤ limit
   unfolding filled
-  held-count = subst (λ (n : ℕ). n ≤ limit) (sym (ap (λ (x : Items). x .count) (h .stored))) (at-most-28 l (h .its) (h .holds-them))
+  items-count = subst (λ (n : ℕ). n ≤ limit) (sym (ap (λ (x : Items). x .count) (h .stored))) (at-most-28 l (h .its) (content-short l (h .its) (h .reading)) (content-holds l (h .its) (h .reading)))
 
-  pub held-fit : allFit (listed s) ≡ true
-  held-fit = ap allFit held-listed ∙ packable-fits (h .its) (writable-packable (h .its) (read-is-writable l (h .its) (h .holds-them)))
+  pub items-fit : allFit (listed s) ≡ true
+  items-fit = ap allFit items-listed ∙ packable-fits (h .its) (writable-packable (h .its) (items-writable l (h .its) (content-short l (h .its) (h .reading)) (content-holds l (h .its) (h .reading))))
 
-  pub held-filled : filled (listed s) ≡ s
-  held-filled = ap filled held-listed ∙ sym (h .stored)
+  pub items-filled : filled (listed s) ≡ s
+  items-filled = ap filled items-listed ∙ sym (h .stored)
 
 -- a duration in range fits its three bits
 pub duration-lt : (its : List Item) → allFit its ≡ true → durationOf its < 8

@@ -1,13 +1,13 @@
 -- The words of a multi-group report from what the packer gives.
-use Prim.Native.Nat.{ℕ, zero, suc, _+_, _-_, _*_, _≤_, _<_}
+use Prim.Native.Nat.{ℕ, zero, suc, _+_, _-_, _*_, _≤_}
 use mathlib.Core.Path.{_≡_, refl, sym, ap, ap₂, _∙_}
-use mathlib.Core.Bool.{Bool, true, false, _&&_}
-use mathlib.Core.List.{List, [], _∷_}
+use mathlib.Core.Bool.{Bool, true, _&&_}
+use mathlib.Core.List.{List, _∷_}
 use native.Mathlib.Nat.{suc-mul, mul-comm, add-comm}
 use native.Mathlib.Omega.{arith}
 use lib.ListN.{length, take, drop}
 use lib.Seq.{take-take}
-use lib.Dec.{ltb, leb}
+use lib.Dec.{leb}
 use borrow.Author.Tests.{leb-true, lt-ltb}
 use Rattle.bits.specs.Bits.{val}
 use Rattle.bits.specs.Fields.{words, pack, fits}
@@ -16,18 +16,17 @@ use Rattle.bits.proofs.Stretch.{drop-take}
 use Rattle.bits.proofs.Fields.{length-words}
 use Rattle.word.specs.Format.{headPart, headFormat}
 use Rattle.word.specs.Compose.{headValues, firstValues, isIndex}
-use Rattle.content.specs.declared.item.Item.{Item}
 use Rattle.content.specs.declared.items.Items.{Items}
 use Rattle.content.specs.declared.pack.Packed.{Packed}
-use Rattle.content.specs.Held.{bitsOf, startingWith}
-use Rattle.content.specs.Packing.{groupBits, longest, groups, room, packing, padded, writable}
+use Rattle.content.specs.Halves.{bitsOf, startingWith}
+use Rattle.content.specs.Packing.{groupBits, groups, packing, writable}
 use Rattle.content.specs.Stored.{listed, wellPlaced}
-use Rattle.content.specs.Answers.{packed, packedIf, packedOf}
+use Rattle.content.specs.Answers.{packed, packedIf, packedOf, bitsPacked}
 use Rattle.content.proofs.WrittenIsRead.{packable-short, writable-packable}
 use Rattle.content.proofs.PackedIsRead.{packed-padded}
 use Rattle.report.specs.declared.Report.{Report}
 use Rattle.report.specs.Fits.{itemsFit, agrees, multiFits}
-use Rattle.report.specs.Write.{contentsOf, laterGroups, laterWords, multiWords}
+use Rattle.report.specs.Write.{contentsOf, laterWords, multiWords}
 use Rattle.report.proofs.Groups.{length-later}
 
 -- n words stand in the first n * w bits
@@ -65,30 +64,37 @@ module _ (ci : ℕ) (r : Report) (fit : multiFits r ≡ true) where
       let small = leb-true ci 6 (and-right (leb 1 ci) (leb ci 6) i) in
       ap₂ (λ (a b : Bool). a && b) (lt-ltb ci 8 (omega arith)) head-fit
 
-  pub count-is : laterGroups (packedOf (r .items) .answer) ≡ groups (length (packing (listed (r .items)))) - 1
-  unfolding laterGroups packed
-  count-is = ap (λ (p : Packed). laterGroups (p .answer)) (fit-packed (r .items) items-fit)
+  -- the bits that the packer tells are those of the items
+  pub bits-are : bitsPacked (packedOf (r .items) .answer) ≡ length (packing (listed (r .items)))
+  unfolding bitsPacked packed
+  bits-are = ap (λ (p : Packed). bitsPacked (p .answer)) (fit-packed (r .items) items-fit)
 
-  pub few : laterGroups (packedOf (r .items) .answer) ≤ 4
+  abbrev count : ℕ
+  count = groups (bitsPacked (packedOf (r .items) .answer))
+
+  pub few : count ≤ 5
   few =
       let short = packable-short (listed (r .items)) (writable-packable (listed (r .items)) (fit-writable (r .items) items-fit)) in
-      omega (arith, count-is)
+      let n = bits-are in
+      omega arith
 
-  contents-are : contentsOf (listed (r .items)) ≡ words groupBits (laterGroups (packedOf (r .items) .answer)) (bitsOf (packedOf (r .items) .content))
+  contents-are : contentsOf (listed (r .items)) ≡ words groupBits (count - 1) (bitsOf (packedOf (r .items) .content))
   unfolding contentsOf packed
   contents-are =
       let its = listed (r .items) in
       let k = groups (length (packing its)) - 1 in
       ap (words groupBits k) (sym (packed-padded its (fit-writable (r .items) items-fit)) ∙ ap (λ (m : ℕ). take m (bitsOf (startingWith (packing its)))) (mul-comm groupBits k))
       ∙ words-take groupBits k (bitsOf (startingWith (packing its)))
-      ∙ ap₂ (λ (n : ℕ) (p : Packed). words groupBits n (bitsOf (p .content))) (sym count-is) (sym (fit-packed (r .items) items-fit))
+      ∙ ap₂ (λ (n : ℕ) (p : Packed). words groupBits (groups n - 1) (bitsOf (p .content))) (sym bits-are) (sym (fit-packed (r .items) items-fit))
 
-  pub multi-is : val (pack headFormat (firstValues ci (r .head))) ∷ laterWords ci 1 (words groupBits (laterGroups (packedOf (r .items) .answer)) (bitsOf (packedOf (r .items) .content))) ≡ multiWords ci r
+  pub multi-is : val (pack headFormat (firstValues ci (r .head))) ∷ laterWords ci 1 (words groupBits (count - 1) (bitsOf (packedOf (r .items) .content))) ≡ multiWords ci r
   unfolding multiWords
   multi-is = ap (λ (cs : List ℕ). val (pack headFormat (firstValues ci (r .head))) ∷ laterWords ci 1 cs) (sym contents-are)
 
-  pub length-multi : length (multiWords ci r) ≡ suc (laterGroups (packedOf (r .items) .answer))
+  pub length-multi : length (multiWords ci r) ≡ count
   length-multi =
+      let e : suc (count - 1) ≡ count = omega arith in
       ap length (sym multi-is)
-      ∙ ap suc (length-later (words groupBits (laterGroups (packedOf (r .items) .answer)) (bitsOf (packedOf (r .items) .content))) ci 1
-      ∙ length-words groupBits (laterGroups (packedOf (r .items) .answer)) (bitsOf (packedOf (r .items) .content)))
+      ∙ ap suc (length-later (words groupBits (count - 1) (bitsOf (packedOf (r .items) .content))) ci 1
+      ∙ length-words groupBits (count - 1) (bitsOf (packedOf (r .items) .content)))
+      ∙ e

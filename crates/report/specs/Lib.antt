@@ -3,3 +3,4 @@ pub mod Read
 pub mod Fits
 pub mod Write
 pub mod Record
+pub mod Samples

@@ -7,7 +7,6 @@ use lib.ListN.{length, drop}
 use lib.Dec.{leb}
 use Rattle.bits.specs.Fields.{words}
 use Rattle.content.specs.declared.item.Item.{Item}
-use Rattle.content.specs.declared.pack.PackAnswer.{PackAnswer}
 use Rattle.content.specs.Packing.{zeros, packing, groups, longest}
 use Rattle.content.specs.Stored.{listed}
 use Rattle.report.specs.declared.Report.{Report}
@@ -16,7 +15,6 @@ use Rattle.report.specs.declared.Form.the-variants.{Single, Multi}
 use Rattle.report.specs.declared.Packing.{Packing}
 use Rattle.report.specs.declared.Packing.the-variants.{Groups, Refused}
 use Rattle.report.specs.Fits.{reportFits}
-use Rattle.report.specs.Write.{laterGroups}
 
 abbrev pub contentBytes : ℕ
 contentBytes = 14
@@ -25,18 +23,13 @@ contentBytes = 14
 unfoldable pub bytesOf : List Item → List ℕ
 bytesOf its = words 8 contentBytes (packing its ++ zeros (longest - length (packing its)))
 
--- the groups that the report takes: one, or the fewest that hold its items
-unfoldable pub groupsBy : Form → List Item → ℕ
-groupsBy Single its = 1
-groupsBy Multi its = groups (length (packing its))
-
--- the same from what the packer answers
-unfoldable pub groupsFor : Form → PackAnswer → ℕ
-groupsFor Single answer = 1
-groupsFor Multi answer = laterGroups answer + 1
+-- the groups of a report whose items take n bits: one, or the fewest that have room for them
+unfoldable pub groupsFor : Form → ℕ → ℕ
+groupsFor Single n = 1
+groupsFor Multi n = groups n
 
 unfoldable pub groupsOf : Report → ℕ
-groupsOf r = groupsBy (r .form) (listed (r .items))
+groupsOf r = groupsFor (r .form) (length (packing (listed (r .items))))
 
 -- refusal 9 for a report that a writer does not take, then 15 for too small a buffer; else the number of groups
 unfoldable pub packReport : Report → ℕ → Packing

@@ -10,8 +10,6 @@ use Rattle.word.specs.Format.{headFormat, laterFormat}
 use Rattle.word.specs.Compose.{singleValues, firstValues, laterValues}
 use Rattle.content.specs.declared.item.Item.{Item}
 use Rattle.content.specs.Packing.{groupBits, groups, packing, padded}
-use Rattle.content.specs.declared.pack.PackAnswer.{PackAnswer}
-use Rattle.content.specs.declared.pack.PackAnswer.the-variants as packed
 use Rattle.content.specs.Stored.{listed}
 use Rattle.report.specs.declared.Report.{Report}
 use Rattle.report.specs.declared.Form.{Form}
@@ -49,14 +47,18 @@ wordsOf ci r = wordsBy (r .form) ci r
 unfoldable pub canWrite : ℕ → Report → Bool
 canWrite ci r = reportFits r && indexFits (r .form) ci
 
--- the later groups that a packer's answer takes: the fewest, at least one
-unfoldable pub laterGroups : PackAnswer → ℕ
-laterGroups (packed.Packed n) = groups n - 1
-laterGroups (packed.Refused n) = 0
-
 -- words into the first cells of a buffer: 15 where there are too few cells, else the number of words
 unfoldable pub placing : List ℕ → ℕ → Writing
 placing ws room = cond (leb (length ws) room) (Written (length ws)) (Refused 15)
+
+-- what the answer tells: the number of words written, 0 on a refusal, and the refusal's number, 0 where there is none
+abbrev pub countIn : Writing → ℕ
+countIn (Written n) = n
+countIn (Refused n) = 0
+
+abbrev pub refusalIn : Writing → ℕ
+refusalIn (Written n) = 0
+refusalIn (Refused n) = n
 
 -- the buffer afterwards: the words first and later cells as they were; all as they were where there are too few
 unfoldable pub placed : List ℕ → List ℕ → List ℕ

@@ -1,18 +1,14 @@
 // A report's content as the message table keeps it.
 ghost use mathlib.Core.Path.{_≡_};
-ghost use Prim.Native.Nat.{_≤_};
 ghost use lib.ListN.{length};
 ghost use Rattle.bits.specs.Fields.{words};
-ghost use Rattle.content.specs.Held.{bitsOf};
-ghost use Rattle.report.specs.Write.{laterGroups};
+ghost use Rattle.content.specs.Halves.{bitsOf};
 ghost use Rattle.report.specs.Record.{contentBytes, groupsFor, packReport, bytesAfter};
 use crate::Form;
 use crate::Packing;
 use crate::Report;
-use crate::write::later_groups;
 use bits::bytes::store;
 use content::content::Content;
-use content::pack::PackAnswer;
 use content::pack::pack;
 
 impl Report {
@@ -33,7 +29,7 @@ impl Report {
                 let content = packed.content;
                 let end = Report::CONTENT;
                 put_content(content, &mut out[..end]);
-                Packing::Groups(groups_for(form, answer))
+                Packing::Groups(groups_for(form, answer.bits()))
             } else {
                 Packing::Refused(15)
             }
@@ -52,13 +48,12 @@ fn put_content(content: Content, out: &mut [u8])
     store(&mut out[8..14], content.low / 0x1_0000);
 }
 
-// The groups of a report whose items were packed.
-fn groups_for(form: Form, answer: PackAnswer) -> usize
-    requires { ⌜ laterGroups answer ≤ 4 ⌝ }
-    ensures { λ n. ⌜ n ≡ groupsFor form answer ⌝ }
+// The groups of a report whose items take n bits.
+fn groups_for(form: Form, n: usize) -> usize
+    ensures { λ g. ⌜ g ≡ groupsFor form n ⌝ }
 {
     match form {
         Form::Single => 1,
-        Form::Multi => later_groups(answer) + 1,
+        Form::Multi => Content::groups(n),
     }
 }

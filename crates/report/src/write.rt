@@ -3,18 +3,17 @@ ghost use mathlib.Core.Path.{_≡_};
 ghost use mathlib.Core.Bool.{true};
 ghost use Prim.Native.Nat.{_≤_};
 ghost use lib.ListN.{length};
-ghost use Rattle.content.specs.Held.{bitsOf};
+ghost use Rattle.content.specs.Halves.{bitsOf};
 ghost use Rattle.content.specs.Packing.{groupBits};
 ghost use Rattle.bits.specs.Fields.{words};
 ghost use Rattle.word.specs.Compose.{isIndex};
 ghost use Rattle.report.specs.Fits.{singleFits, multiFits};
-ghost use Rattle.report.specs.Write.{writeReport, wordsAfter, placing, placed, singleWords, laterGroups, laterWords, multiWords};
+ghost use Rattle.report.specs.Write.{writeReport, wordsAfter, placing, placed, singleWords, laterWords, multiWords};
 use crate::Form;
 use crate::Report;
 use crate::Writing;
 use crate::fits::index_fits;
 use content::content::Content;
-use content::pack::PackAnswer;
 use content::pack::pack;
 use word::compose::first_number;
 use word::compose::later_number;
@@ -60,30 +59,13 @@ fn write_multi(r: Report, ci: u8, out: &mut [u64]) -> Writing
     let packed = pack(r.items);
     let answer = packed.answer;
     let content = packed.content;
-    let later = later_groups(answer);
-    let end = later + 1;
+    let end = Content::groups(answer.bits());
     if end <= out.len() {
         out[0] = first_number(ci, r.head);
         put_later(ci, content, &mut out[1..end]);
         Writing::Written(end)
     } else {
         Writing::Refused(15)
-    }
-}
-
-// The later groups that packed items take.
-pub(crate) fn later_groups(answer: PackAnswer) -> usize
-    ensures { λ n. ⌜ n ≡ laterGroups answer ⌝ }
-{
-    match answer {
-        PackAnswer::Packed(n) => {
-            if n <= Content::GROUP {
-                1
-            } else {
-                (n - 1) / Content::GROUP + 1
-            }
-        }
-        PackAnswer::Refused(_) => 0,
     }
 }
 

@@ -5,10 +5,10 @@ use mathlib.Core.Path.{_≡_, refl, sym, ap, ap₂, subst, _∙_}
 use mathlib.Core.Bool.{true, _&&_}
 use mathlib.Core.List.{List, [], _∷_, _++_}
 use lib.ListN.{length}
-use Rattle.word.specs.declared.Head.{Head}
+use Rattle.transmission.specs.Reading.{ReadsSingle, ReadsMulti}
 use Rattle.transmission.specs.State.{State, empty, started}
-use Rattle.transmission.specs.Step.{Outcome, step}
-use Rattle.transmission.specs.Calls.{answers, reportsAmong}
+use Rattle.transmission.specs.Step.{step}
+use Rattle.transmission.specs.Calls.{answers, reportsAmong, reportsTo}
 use Rattle.transmission.specs.Message.{Message, WellFormed, lost, OfIndex}
 use Rattle.transmission.specs.Transmission.{Spaced, arrivals, dueReports}
 use Rattle.transmission.specs.Demand3.{All, Claim, Demand3}
@@ -49,7 +49,7 @@ ready : {R : Type 0} (s : State) (m : Message R) (sent : List (Message R)) → R
 ready empty m sent h l = tt
 ready (started ci head last contents) m sent h l = h .1 l
 
-module _ {R : Type 0} (single : ℕ → ℕ → Head → R) (read : Head → List ℕ → Outcome R) where
+module _ {R : Type 0} (single : ReadsSingle R) (read : ReadsMulti R) where
   transmitted : (k : ℕ) (sent : List (Message R)) → All (λ m. WellFormed single read (m .groups) (m .report)) sent → Spaced k sent → NeverLost k sent
       → (s : State) → Ready s sent → heard single read s (arrivals sent) ≡ dueReports sent
   unfolding arrivals dueReports answers reportsAmong
@@ -63,11 +63,11 @@ module _ {R : Type 0} (single : ℕ → ℕ → Head → R) (read : Head → Lis
       (safe k ci sent (λ between after b ib e. apart ci [] between after m b i ib (ap (λ (l : List (Message R)). m ∷ l) e)) (bound' [] sent refl)))
 
   -- where as many messages stand between two of one index as no loss holds
-  pub claim : (k : ℕ) → Claim single read k k (answers (step single read) empty)
+  pub claim : (k : ℕ) → Claim single read k k (reportsTo (step single read) empty)
   claim k sent words formed apart bound e =
       only-user-words single read words empty
       ∙ ap (heard single read empty) e
       ∙ transmitted k sent formed apart (never-lost k sent bound) empty tt
 
-  pub demand3 : Demand3 single read (answers (step single read) empty)
+  pub demand3 : Demand3 single read (reportsTo (step single read) empty)
   demand3 = claim 5

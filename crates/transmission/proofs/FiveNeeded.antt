@@ -8,11 +8,11 @@ use lib.Dec.{lit<}
 use native.Mathlib.Omega.{arith}
 use Rattle.transmission.specs.State.{empty}
 use Rattle.transmission.specs.Step.{step}
-use Rattle.transmission.specs.Calls.{answers}
+use Rattle.transmission.specs.Calls.{reportsTo}
 use Rattle.transmission.specs.Message.{Message}
 use Rattle.transmission.specs.Transmission.{arrivals, dueReports}
 use Rattle.transmission.specs.Demand3.{userWords, All, Claim}
-use Rattle.transmission.proofs.FewLost.{lostWhole, few-lost}
+use Rattle.transmission.proofs.FewLost.{mostLost, few-lost}
 use Rattle.transmission.proofs.Spacing.{spaced, by-test}
 use Rattle.transmission.proofs.Samples.{computing, Plain, plainSingle, plainRead, Formed, sent1, sent3, formed1, formed3}
 
@@ -33,8 +33,8 @@ formed zero = (formed3 false false true, tt)
 formed (suc k) = (formed1 false, formed k)
 
 -- a report is given and none is due
-joined-wrongly : (between limit k : ℕ) → spaced between (cut k) ≡ true → lostWhole (cut k) < limit → userWords received ≡ arrivals (cut k) → dueReports (cut k) ≡ []
-    → Claim plainSingle plainRead between limit (answers (step plainSingle plainRead) empty) → ⊥
+joined-wrongly : (between limit k : ℕ) → spaced between (cut k) ≡ true → mostLost 0 (cut k) < limit → userWords received ≡ arrivals (cut k) → dueReports (cut k) ≡ []
+    → Claim plainSingle plainRead between limit (reportsTo (step plainSingle plainRead) empty) → ⊥
 unfolding computing
 joined-wrongly between limit k apart few order none claim =
     let e : _≡_ {A = List Plain} ((401 ∷ 7 ∷ 8 ∷ []) ∷ []) [] =
@@ -42,10 +42,10 @@ joined-wrongly between limit k apart few order none claim =
     let z : _≡_ {A = ℕ} 0 1 = cc in
     omega arith
 
-pub five-lost : Claim plainSingle plainRead 5 6 (answers (step plainSingle plainRead) empty) → ⊥
+pub five-lost : Claim plainSingle plainRead 5 6 (reportsTo (step plainSingle plainRead) empty) → ⊥
 unfolding computing
 five-lost = joined-wrongly 5 6 5 refl (lit< tt) refl refl
 
-pub four-between : Claim plainSingle plainRead 4 5 (answers (step plainSingle plainRead) empty) → ⊥
+pub four-between : Claim plainSingle plainRead 4 5 (reportsTo (step plainSingle plainRead) empty) → ⊥
 unfolding computing
 four-between = joined-wrongly 4 5 4 refl (lit< tt) refl refl

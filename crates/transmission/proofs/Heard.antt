@@ -3,21 +3,21 @@ use Prim.Native.Nat.{ℕ}
 use mathlib.Core.Path.{_≡_, refl, sym, ap, _∙_}
 use mathlib.Core.Bool.{Bool, true, false, cond, true≢false}
 use mathlib.Core.List.{List, [], _∷_}
-use Rattle.word.specs.declared.Head.{Head}
 use Rattle.word.specs.declared.Word.{Word}
 use Rattle.word.specs.declared.Word.the-variants.{Single, First, Later, Tuning, Administration, Index7, Beyond}
 use Rattle.word.specs.Kind.{kindOf}
 use Rattle.word.specs.User.{isUser, isUserKind}
 use Rattle.word.proofs.UserGroups.{user-kind}
+use Rattle.transmission.specs.Reading.{ReadsSingle, ReadsMulti}
 use Rattle.transmission.specs.State.{State}
-use Rattle.transmission.specs.Step.{Outcome, Step, step, stepBy}
-use Rattle.transmission.specs.Calls.{answers, reportThen, reportsAmong}
+use Rattle.transmission.specs.Step.{Step, step, stepBy}
+use Rattle.transmission.specs.Calls.{answers, reportThen, reportsAmong, reportsTo}
 use Rattle.transmission.specs.Demand3.{userWords}
 use Rattle.transmission.proofs.Steps.{step-kind}
 
-module _ {R : Type 0} (single : ℕ → ℕ → Head → R) (read : Head → List ℕ → Outcome R) where
+module _ {R : Type 0} (single : ReadsSingle R) (read : ReadsMulti R) where
   abbrev pub heard : State → List ℕ → List R
-  heard s words = reportsAmong (answers (step single read) s words)
+  heard = reportsTo (step single read)
 
   -- after a step
   abbrev pub heardAfter : Step R → List ℕ → List R

@@ -8,6 +8,7 @@ use lib.Dec.{leb, ltb, eqb}
 use lib.ListN.{length, length-append}
 use borrow.Author.Tests.{eqb-true, eqb-false, le-leb, leb-true}
 use Rattle.bits.specs.Fields.{fits}
+use Rattle.bits.specs.Outcome.{Outcome, gives, refused}
 use Rattle.bits.proofs.Choice.{and-left, and-right}
 use Rattle.word.specs.declared.Head.{Head}
 use Rattle.word.specs.declared.Word.{Word}
@@ -16,10 +17,12 @@ use Rattle.word.specs.Format.{headPart}
 use Rattle.word.specs.Kind.{kindOf}
 use Rattle.word.specs.Compose.{headValues, isIndex}
 use Rattle.word.proofs.Numbers.{head-fits}
+use Rattle.transmission.specs.Reading.{ReadsSingle, ReadsMulti}
 use Rattle.transmission.specs.State.{State, empty, started}
-use Rattle.transmission.specs.Step.{Outcome, reported, refused, strayed, inTurn, completed, taken, later, stepBy, step}
+use Rattle.transmission.specs.Step.{strayed, inTurn, completed, taken, later, stepBy, step}
 use Rattle.transmission.specs.Calls.{after}
-use Rattle.transmission.specs.Reachable.{contentsFit, countFits, reachable}
+use Rattle.transmission.specs.Reachable.{countFits}
+use Rattle.transmission.proofs.Reachable.{contentsFit, reachable}
 use Rattle.transmission.proofs.Words.{first-index, first-fits, later-index, later-range}
 
 -- what holds of an open message that calls reach
@@ -62,12 +65,12 @@ count-fit (d ∷ contents) last second gsi c turn room small more =
     let long = length-append contents (c ∷ []) in
     ap₂ _&&_ (le-leb 1 gsi (omega arith)) (le-leb (suc (length (contents ++ c ∷ [])) + gsi) 4 (omega arith))
 
-completed-empties : {R : Type 0} (o : Outcome R) → completed o .next ≡ empty
+completed-empties : {R : Type 0} (o : Outcome R ℕ) → completed o .next ≡ empty
 unfolding completed
-completed-empties (reported r) = refl
+completed-empties (gives r) = refl
 completed-empties (refused n) = refl
 
-module _ {R : Type 0} (single : ℕ → ℕ → Head → R) (read : Head → List ℕ → Outcome R) where
+module _ {R : Type 0} (single : ReadsSingle R) (read : ReadsMulti R) where
   later-kept : (s : State) (n ci second gsi c : ℕ) → kindOf n ≡ Later ci second gsi c → reachable s ≡ true → reachable (later read s ci second gsi c .next) ≡ true
   unfolding later taken reachable
   later-kept empty n ci second gsi c k r = refl

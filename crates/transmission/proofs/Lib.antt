@@ -1,8 +1,10 @@
 pub mod Words
+pub mod Reachable
 pub mod Formed
 pub mod Steps
 pub mod Heard
 pub mod OneMessage
+pub mod WholeMessage
 pub mod Losses
 pub mod FewLost
 pub mod Spacing

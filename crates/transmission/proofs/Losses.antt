@@ -38,22 +38,22 @@ module _ {R : Type 0} where
   lost-run (suc k) (m ∷ sent) e = lost-append (m .groups) (groupsOf (take k sent)) (and-left (lost (m .groups)) (lostFirst k sent) e) (lost-run k sent (and-right (lost (m .groups)) (lostFirst k sent) e))
 
   -- a run of groups holds the messages that it is made of
-  held-run : (k : ℕ) (sent : List (Message R)) (from to place : ℕ) → lostFirst k sent ≡ true → from ≤ place → place + length (groupsOf (take k sent)) ≤ to → k ≤ held from to place sent
+  held-run : (k : ℕ) (sent : List (Message R)) (from to position : ℕ) → lostFirst k sent ≡ true → from ≤ position → position + length (groupsOf (take k sent)) ≤ to → k ≤ held from to position sent
   unfolding groupsOf lostFirst held
-  held-run zero sent from to place e a b = omega arith
-  held-run (suc k) [] from to place e a b = absurd (false≢true e)
-  held-run (suc k) (m ∷ sent) from to place e a b =
+  held-run zero sent from to position e a b = omega arith
+  held-run (suc k) [] from to position e a b = absurd (false≢true e)
+  held-run (suc k) (m ∷ sent) from to position e a b =
       let all = length-append (m .groups) (groupsOf (take k sent)) in
-      let others = held-run k sent from to (place + length (m .groups)) (and-right (lost (m .groups)) (lostFirst k sent) e) (omega arith) (omega arith) in
-      rw (le-leb from place a, le-leb (place + length (m .groups)) to (omega arith)) (omega arith)
+      let others = held-run k sent from to (position + length (m .groups)) (and-right (lost (m .groups)) (lostFirst k sent) e) (omega arith) (omega arith) in
+      rw (le-leb from position a, le-leb (position + length (m .groups)) to (omega arith)) (omega arith)
 
   -- the messages behind others
-  held-behind : (l sent : List (Message R)) (from to place : ℕ) → held from to (place + length (groupsOf l)) sent ≤ held from to place (l ++ sent)
+  held-behind : (l sent : List (Message R)) (from to position : ℕ) → held from to (position + length (groupsOf l)) sent ≤ held from to position (l ++ sent)
   unfolding groupsOf held
-  held-behind [] sent from to place = rw add-zero (le-refl _)
-  held-behind (m ∷ l) sent from to place =
-      let others = held-behind l sent from to (place + length (m .groups)) in
-      let more : held from to (place + length (m .groups ++ groupsOf l)) sent ≤ held from to (place + length (m .groups)) (l ++ sent) = rw (length-append, ← add-assoc) others in
+  held-behind [] sent from to position = rw add-zero (le-refl _)
+  held-behind (m ∷ l) sent from to position =
+      let others = held-behind l sent from to (position + length (m .groups)) in
+      let more : held from to (position + length (m .groups ++ groupsOf l)) sent ≤ held from to (position + length (m .groups)) (l ++ sent) = rw (length-append, ← add-assoc) others in
       omega arith
 
   pub never-lost : (k : ℕ) (sent : List (Message R)) → NoLossHolds k sent → NeverLost k sent

@@ -5,34 +5,36 @@ use mathlib.Core.Bool.{Bool, true, false, cond, _&&_, not}
 use mathlib.Core.List.{List, [], _∷_, _++_, append-nil, append-assoc}
 use native.Mathlib.Omega.{arith}
 use lib.Dec.{eqb·suc-zero}
+use Rattle.bits.specs.Outcome.{gives}
 use Rattle.word.specs.declared.Head.{Head}
 use Rattle.word.specs.declared.Word.the-variants.{First, Later}
 use Rattle.word.specs.Kind.{kindOf}
+use Rattle.transmission.specs.Reading.{ReadsSingle, ReadsMulti}
 use Rattle.transmission.specs.State.{State, empty, started}
-use Rattle.transmission.specs.Step.{Outcome, reported, Step, strayed, completed, taken, later, stepBy}
+use Rattle.transmission.specs.Step.{Step, strayed, completed, taken, later, stepBy}
 use Rattle.transmission.specs.Calls.{reportThen}
 use Rattle.transmission.specs.Message.{Group, arrivedOf, whole, lost, Falling, end, next, WellFormed, alone, joined, OfIndex, begins}
 use Rattle.transmission.proofs.Steps.{Foreign, foreign-strays, unmarked-strays, gap-strays, in-turn, marked-in-turn, taken-open, step-kind, step-later}
 use Rattle.transmission.proofs.Heard.{heard, heardAfter, heard-step}
 
 -- later groups, each out of turn in state s
-data Stray {R : Type 0} (read : Head → List ℕ → Outcome R) (s : State) : List Group → Type 0 where
+data Stray {R : Type 0} (read : ReadsMulti R) (s : State) : List Group → Type 0 where
   none : Stray read s []
   one : {g : Group} {gs : List Group} {ci second gsi c : ℕ} → kindOf (g .word) ≡ Later ci second gsi c → later read s ci second gsi c ≡ strayed → Stray read s gs → Stray read s (g ∷ gs)
 
 -- with no open message every later group strays
-stray-empty : {R : Type 0} {read : Head → List ℕ → Outcome R} {s : State} {gs : List Group} → Stray read s gs → Stray read empty gs
+stray-empty : {R : Type 0} {read : ReadsMulti R} {s : State} {gs : List Group} → Stray read s gs → Stray read empty gs
 unfolding later
 stray-empty none = none
 stray-empty (one k e t) = one k refl (stray-empty t)
 
-module _ {R : Type 0} (read : Head → List ℕ → Outcome R) where
+module _ {R : Type 0} (read : ReadsMulti R) where
   -- the later groups after one of GSI g, if none without the mark and of a lower GSI is in turn
   falling-strays : (s : State) {ci g : ℕ} {cs : List ℕ} {gs : List Group} → Falling ci g cs gs → ((gsi c : ℕ) → gsi < g → later read s ci 0 gsi c ≡ strayed) → Stray read s gs
   falling-strays s end h = none
   falling-strays s (next {gsi = gsi} {c = c} k f) h = one k (h gsi c (omega arith)) (falling-strays s f (λ gsi' c' l. h gsi' c' (omega arith)))
 
-module _ {R : Type 0} (single : ℕ → ℕ → Head → R) (read : Head → List ℕ → Outcome R) (rest : List ℕ) (due : List R) (gone : heard single read empty rest ≡ due) where
+module _ {R : Type 0} (single : ReadsSingle R) (read : ReadsMulti R) (rest : List ℕ) (due : List R) (gone : heard single read empty rest ≡ due) where
   -- groups that stray give no report, and if one of them arrives no message is open any more
   strays : (gs : List Group) (s : State) → Stray read s gs → (lost gs ≡ true → heard single read s rest ≡ due) → heard single read s (arrivedOf gs ++ rest) ≡ due
   unfolding arrivedOf lost reportThen
@@ -47,11 +49,11 @@ module _ {R : Type 0} (single : ℕ → ℕ → Head → R) (read : Head → Lis
 
   module _ (ci : ℕ) (head : Head) (r : R) (kept : (last : ℕ) (contents : List ℕ) → heard single read (started ci head last contents) rest ≡ due) where
     -- from a later group taken on
-    go-on : {gsi : ℕ} {cs : List ℕ} {gs : List Group} (c : ℕ) (contents : List ℕ) → Falling ci gsi cs gs → read head ((c ∷ contents) ++ cs) ≡ reported r
+    go-on : {gsi : ℕ} {cs : List ℕ} {gs : List Group} (c : ℕ) (contents : List ℕ) → Falling ci gsi cs gs → read head ((c ∷ contents) ++ cs) ≡ gives r
         → heardAfter single read (taken read ci head gsi (c ∷ contents)) (arrivedOf gs ++ rest) ≡ cond (whole gs) (r ∷ due) due
     unfolding taken completed arrivedOf whole reportThen
     go-on c contents end e =
-        let reads : read head (c ∷ contents) ≡ reported r = rw append-nil at e in
+        let reads : read head (c ∷ contents) ≡ gives r = rw append-nil at e in
         rw reads (ap (λ (l : List R). r ∷ l) gone)
     go-on c contents (next {g = g} {gsi = gsi} {c = d} {cs = cs} {gs = gs} k f) e =
         ap (λ (t : Step R). heardAfter single read t (arrivedOf (g ∷ gs) ++ rest)) (taken-open read ci head (suc gsi) (c ∷ contents) (eqb·suc-zero gsi))
@@ -66,7 +68,7 @@ module _ {R : Type 0} (single : ℕ → ℕ → Head → R) (read : Head → Lis
 
     module _ (g : Group) (gs : List Group) {gsi c : ℕ} {cs : List ℕ} (k : kindOf (g .word) ≡ Later ci 1 gsi c) (falling : Falling ci gsi cs gs) where
       -- from a first group that arrived on
-      from-first : read head (c ∷ cs) ≡ reported r → heard single read (started ci head 0 []) (arrivedOf (g ∷ gs) ++ rest) ≡ cond (whole (g ∷ gs)) (r ∷ due) due
+      from-first : read head (c ∷ cs) ≡ gives r → heard single read (started ci head 0 []) (arrivedOf (g ∷ gs) ++ rest) ≡ cond (whole (g ∷ gs)) (r ∷ due) due
       unfolding arrivedOf whole
       from-first reads = by-fate (g .arrived)
         where
@@ -75,7 +77,7 @@ module _ {R : Type 0} (single : ℕ → ℕ → Head → R) (read : Head → Lis
           by-fate false = strays gs (started ci head 0 []) (falling-strays read _ falling (λ gsi' c' l. unmarked-strays read ci head gsi' c')) (λ e. kept 0 [])
 
       -- all groups of a message, where none of its index is open
-      from-foreign : (s : State) (f : Group) → kindOf (f .word) ≡ First ci head → read head (c ∷ cs) ≡ reported r → Foreign ci s
+      from-foreign : (s : State) (f : Group) → kindOf (f .word) ≡ First ci head → read head (c ∷ cs) ≡ gives r → Foreign ci s
           → (lost (f ∷ g ∷ gs) ≡ true → heard single read s rest ≡ due)
           → heard single read s (arrivedOf (f ∷ g ∷ gs) ++ rest) ≡ cond (whole (f ∷ g ∷ gs)) (r ∷ due) due
       unfolding arrivedOf whole lost stepBy reportThen

@@ -15,17 +15,19 @@ use Rattle.word.specs.declared.Word.{Word}
 use Rattle.word.specs.declared.Word.the-variants.{First, Later}
 use Rattle.word.specs.Kind.{kindOf}
 use Rattle.word.specs.Compose.{isIndex}
+use Rattle.transmission.specs.Reading.{ReadsSingle, ReadsMulti}
 use Rattle.transmission.specs.State.{State, empty, started}
-use Rattle.transmission.specs.Step.{Outcome, Answer, Step, stepBy, step}
-use Rattle.transmission.specs.Calls.{answers, after, reportsAmong}
-use Rattle.transmission.specs.Reachable.{contentsFit, countFits, reachable, call, Reached}
+use Rattle.transmission.specs.Step.{Answer, Step, stepBy, step}
+use Rattle.transmission.specs.Calls.{answers, after, reportsAmong, reportsTo}
+use Rattle.transmission.specs.Reachable.{countFits}
 use Rattle.transmission.specs.Demand3.{Demand3}
+use Rattle.transmission.proofs.Reachable.{contentsFit, reachable, call, Reached}
 use Rattle.transmission.proofs.Words.{first-word, later-word}
 use Rattle.transmission.proofs.Steps.{in-turn, marked-in-turn, taken-open, step-kind}
 use Rattle.transmission.proofs.Kept.{Fit, fit, reachable-kept, after-kept}
 use Rattle.transmission.proofs.Demand3.{demand3}
 
-module _ {R : Type 0} (single : ℕ → ℕ → Head → R) (read : Head → List ℕ → Outcome R) where
+module _ {R : Type 0} (single : ReadsSingle R) (read : ReadsMulti R) where
   -- some words lead from s to t
   abbrev Leads : State → State → Type 0
   Leads s t = (words : List ℕ) × (after (step single read) s words ≡ t)
@@ -74,13 +76,13 @@ module _ {R : Type 0} (single : ℕ → ℕ → Head → R) (read : Head → Lis
   unfolding call
   call-step s n r = rw r
 
-  same-answers : (words : List ℕ) (s : State) → reachable s ≡ true → answers (call single read) s words ≡ answers (step single read) s words
+  pub same-answers : (words : List ℕ) (s : State) → reachable s ≡ true → answers (call single read) s words ≡ answers (step single read) s words
   unfolding answers
   same-answers [] s r = refl
   same-answers (n ∷ words) s r =
       rw (call-step s n r) (ap (λ (l : List (Answer R)). step single read s n .answer ∷ l) (same-answers words (step single read s n .next) (reachable-kept single read s n r)))
 
-  same-after : (words : List ℕ) (s : State) → reachable s ≡ true → after (call single read) s words ≡ after (step single read) s words
+  pub same-after : (words : List ℕ) (s : State) → reachable s ≡ true → after (call single read) s words ≡ after (step single read) s words
   unfolding after
   same-after [] s r = refl
   same-after (n ∷ words) s r = rw (call-step s n r) (same-after words (step single read s n .next) (reachable-kept single read s n r))
@@ -93,6 +95,6 @@ module _ {R : Type 0} (single : ℕ → ℕ → Head → R) (read : Head → Lis
     λ w. subst (λ (t : State). reachable t ≡ true) (sym (same-after (w .0) empty refl) ∙ w .1) (after-kept single read (w .0) empty refl),
   )
 
-  pub demand3-of-calls : Demand3 single read (answers (call single read) empty)
+  pub demand3-of-calls : Demand3 single read (reportsTo (call single read) empty)
   unfolding reachable
   demand3-of-calls sent words formed apart bound e = ap reportsAmong (same-answers words empty refl) ∙ demand3 single read sent words formed apart bound e

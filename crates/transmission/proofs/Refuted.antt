@@ -1,5 +1,5 @@
--- Assemblers of which demand 3 is false: one that joins by continuity index alone, one that keeps an old head open, and one that
--- falls silent after its first report.
+-- Assemblers of which demand 3 is false: one that joins by continuity index alone, one that keeps an old head open, one that falls silent
+-- after its first report, one that gives a fixed report, and one that refuses everything.
 use Prim.Native.Nat.{ℕ}
 use mathlib.Core.Path.{_≡_, refl, ap}
 use mathlib.Core.Bool.{true, false, cond}
@@ -10,13 +10,14 @@ use native.Mathlib.Omega.{arith}
 use Rattle.word.specs.declared.Word.{Word}
 use Rattle.word.specs.declared.Word.the-variants.{Single, First, Later, Tuning, Administration, Index7, Beyond}
 use Rattle.word.specs.Kind.{kindOf}
+use Rattle.word.specs.Samples.{single101, first401, later401}
 use Rattle.transmission.specs.State.{State, empty, started}
 use Rattle.transmission.specs.Step.{Answer, nothing, report, tuning, administration, refusal, Step, strayed, taken, stepBy, step}
-use Rattle.transmission.specs.Calls.{answers}
+use Rattle.transmission.specs.Calls.{answers, reportsAmong, reportsTo}
 use Rattle.transmission.specs.Demand3.{Demand3}
 use Rattle.transmission.proofs.FewLost.{few-lost}
 use Rattle.transmission.proofs.Spacing.{by-test}
-use Rattle.transmission.proofs.Samples.{computing, Plain, plainSingle, plainRead, sent1, sent3, formed1, formed3}
+use Rattle.transmission.proofs.Samples.{computing, Plain, plainSingle, plainRead, sent1, sent2, sent3, formed1, formed2, formed3}
 
 -- a later group goes to the open message of its index, whatever its mark and GSI
 unfoldable pub laterByIndex : State → ℕ → ℕ → ℕ → Step Plain
@@ -33,7 +34,7 @@ byIndexAlone s (Index7 n) = stepBy plainSingle plainRead s (Index7 n)
 byIndexAlone s (Beyond n) = stepBy plainSingle plainRead s (Beyond n)
 
 -- three groups, the second lost: the third is joined to the first
-pub by-index-alone : Demand3 plainSingle plainRead (answers (λ s n. byIndexAlone s (kindOf n)) empty) → ⊥
+pub by-index-alone : Demand3 plainSingle plainRead (reportsTo (λ s n. byIndexAlone s (kindOf n)) empty) → ⊥
 unfolding computing laterByIndex byIndexAlone
 by-index-alone claim =
     let sent = sent3 true false true ∷ [] in
@@ -51,11 +52,11 @@ unfoldable pub neverDropping : State → ℕ → Step Plain
 neverDropping s n = record { next = stillOpen s (step plainSingle plainRead s n .next); answer = step plainSingle plainRead s n .answer }
 
 -- the head of one message is joined to the tail of another of its index, five messages later
-pub never-dropping : Demand3 plainSingle plainRead (answers neverDropping empty) → ⊥
+pub never-dropping : Demand3 plainSingle plainRead (reportsTo neverDropping empty) → ⊥
 unfolding computing stillOpen neverDropping
 never-dropping claim =
     let sent = sent3 true true false ∷ sent1 true ∷ sent1 true ∷ sent1 true ∷ sent1 true ∷ sent1 true ∷ sent3 false false true ∷ [] in
-    let words : List ℕ = 0x01899101F4 ∷ 0x0150000007 ∷ 0x0B50653039 ∷ 0x0B50653039 ∷ 0x0B50653039 ∷ 0x0B50653039 ∷ 0x0B50653039 ∷ 0x0100000008 ∷ [] in
+    let words : List ℕ = 0x01899101F4 ∷ 0x0150000007 ∷ single101 ∷ single101 ∷ single101 ∷ single101 ∷ single101 ∷ 0x0100000008 ∷ [] in
     let f1 = formed1 true in
     let e = claim sent words (formed3 true true false, (f1, (f1, (f1, (f1, (f1, (formed3 false false true, tt))))))) (by-test 5 sent refl) (few-lost 5 sent (lit< tt)) refl in
     let one-more : _≡_ {A = ℕ} 6 5 = ap length e in
@@ -71,11 +72,41 @@ silent (administration n ∷ rest) = administration n ∷ silent rest
 silent (refusal n ∷ rest) = refusal n ∷ silent rest
 
 -- two single-group messages
-pub silent-after-first : Demand3 plainSingle plainRead (λ words. silent (answers (step plainSingle plainRead) empty words)) → ⊥
+pub silent-after-first : Demand3 plainSingle plainRead (λ words. reportsAmong (silent (answers (step plainSingle plainRead) empty words))) → ⊥
 unfolding computing silent
 silent-after-first claim =
     let sent = sent1 true ∷ sent1 true ∷ [] in
     let e : _≡_ {A = List Plain} ((101 ∷ []) ∷ []) ((101 ∷ []) ∷ (101 ∷ []) ∷ []) =
-    claim sent (0x0B50653039 ∷ 0x0B50653039 ∷ []) (formed1 true, (formed1 true, tt)) (by-test 5 sent refl) (few-lost 5 sent (lit< tt)) refl in
+    claim sent (single101 ∷ single101 ∷ []) (formed1 true, (formed1 true, tt)) (by-test 5 sent refl) (few-lost 5 sent (lit< tt)) refl in
+    let z : _≡_ {A = ℕ} 0 1 = cc in
+    omega arith
+
+-- this report in the place of any other
+unfoldable pub always : Plain → Answer Plain → Answer Plain
+always r nothing = nothing
+always r (report x) = report r
+always r (tuning n) = tuning n
+always r (administration n) = administration n
+always r (refusal n) = refusal n
+
+unfoldable pub fixed : Plain → State → ℕ → Step Plain
+fixed r s n = record { next = step plainSingle plainRead s n .next; answer = always r (step plainSingle plainRead s n .answer) }
+
+-- two messages with different reports
+pub one-fixed-report : (r : Plain) → Demand3 plainSingle plainRead (reportsTo (fixed r) empty) → ⊥
+unfolding computing always fixed
+one-fixed-report r claim =
+    let sent = sent1 true ∷ sent2 true true ∷ [] in
+    let e : _≡_ {A = List Plain} (r ∷ r ∷ []) ((101 ∷ []) ∷ (401 ∷ 0x3502000 ∷ []) ∷ []) =
+    claim sent (single101 ∷ first401 ∷ later401 ∷ []) (formed1 true, (formed2 true true, tt)) (by-test 5 sent refl) (few-lost 5 sent (lit< tt)) refl in
+    let z : _≡_ {A = ℕ} 0 1 = cc in
+    omega arith
+
+-- every word is refused
+pub refusing-all : Demand3 plainSingle plainRead (reportsTo (λ s n. strayed) empty) → ⊥
+unfolding computing
+refusing-all claim =
+    let sent = sent1 true ∷ [] in
+    let e : _≡_ {A = List Plain} [] ((101 ∷ []) ∷ []) = claim sent (single101 ∷ []) (formed1 true, tt) (by-test 5 sent refl) (few-lost 5 sent (lit< tt)) refl in
     let z : _≡_ {A = ℕ} 0 1 = cc in
     omega arith

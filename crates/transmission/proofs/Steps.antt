@@ -9,15 +9,16 @@ use Rattle.word.specs.declared.Head.{Head}
 use Rattle.word.specs.declared.Word.{Word}
 use Rattle.word.specs.declared.Word.the-variants.{Later}
 use Rattle.word.specs.Kind.{kindOf}
+use Rattle.transmission.specs.Reading.{ReadsSingle, ReadsMulti}
 use Rattle.transmission.specs.State.{State, empty, started}
-use Rattle.transmission.specs.Step.{Outcome, Step, nothing, leaving, strayed, inTurn, taken, later, stepBy, step}
+use Rattle.transmission.specs.Step.{Step, nothing, leaving, strayed, inTurn, taken, later, stepBy, step}
 
 -- s holds no open message of index ci
 abbrev pub Foreign : ℕ → State → Type 0
 Foreign ci empty = Unit {0}
 Foreign ci (started index head last contents) = index ≡ ci → ⊥
 
-module _ {R : Type 0} (read : Head → List ℕ → Outcome R) where
+module _ {R : Type 0} (read : ReadsMulti R) where
   -- a later group of another index
   pub foreign-strays : (ci : ℕ) (s : State) → Foreign ci s → (second gsi c : ℕ) → later read s ci second gsi c ≡ strayed
   unfolding later
@@ -49,7 +50,7 @@ module _ {R : Type 0} (read : Head → List ℕ → Outcome R) where
   taken-open ci head gsi contents e = rw e
 
 -- a word, by its kind
-module _ {R : Type 0} (single : ℕ → ℕ → Head → R) (read : Head → List ℕ → Outcome R) (s : State) (n : ℕ) where
+module _ {R : Type 0} (single : ReadsSingle R) (read : ReadsMulti R) (s : State) (n : ℕ) where
   pub step-kind : (w : Word) → kindOf n ≡ w → step single read s n ≡ stepBy single read s w
   unfolding step
   step-kind w e = ap (stepBy single read s) e

@@ -26,3 +26,7 @@ reportThen (refusal n) rs = rs
 unfoldable pub reportsAmong : {R : Type 0} → List (Answer R) → List R
 reportsAmong [] = []
 reportsAmong (a ∷ rest) = reportThen a (reportsAmong rest)
+
+-- the reports that an assembler gives on a list of words
+abbrev pub reportsTo : {R : Type 0} → (State → ℕ → Step R) → State → List ℕ → List R
+reportsTo step s words = reportsAmong (answers step s words)

@@ -1,4 +1,5 @@
 pub mod State
+pub mod Reading
 pub mod Step
 pub mod Calls
 pub mod Message

@@ -3,10 +3,11 @@ use Prim.Native.Nat.{ℕ, suc}
 use mathlib.Core.Path.{_≡_}
 use mathlib.Core.Bool.{Bool, true, cond, _&&_, not}
 use mathlib.Core.List.{List, [], _∷_}
+use Rattle.bits.specs.Outcome.{gives}
 use Rattle.word.specs.declared.Head.{Head}
 use Rattle.word.specs.declared.Word.the-variants.{Single, First, Later}
 use Rattle.word.specs.Kind.{kindOf}
-use Rattle.transmission.specs.Step.{Outcome, reported}
+use Rattle.transmission.specs.Reading.{ReadsSingle, ReadsMulti}
 
 -- a group: its word, and whether it arrived
 pub record Group : Type 0 where
@@ -43,12 +44,12 @@ pub data Falling (ci : ℕ) : ℕ → List ℕ → List Group → Type 0 where
 -- the groups of a well-formed message, and the report that the rules read from them: a single word; or a first group, a later
 -- one with the mark, and the others, whose content is not refused. GSI has two bits, so that the later groups are one to four
 -- (`at-most-five` in proofs/Formed.antt)
-pub data WellFormed {R : Type 0} (single : ℕ → ℕ → Head → R) (read : Head → List ℕ → Outcome R) : List Group → R → Type 0 where
+pub data WellFormed {R : Type 0} (single : ReadsSingle R) (read : ReadsMulti R) : List Group → R → Type 0 where
   alone : {g : Group} {duration diversion : ℕ} {head : Head}
       → kindOf (g .word) ≡ Single duration diversion head
       → WellFormed single read (g ∷ []) (single duration diversion head)
   joined : {f g : Group} {ci gsi c : ℕ} {head : Head} {cs : List ℕ} {gs : List Group} {r : R}
-      → kindOf (f .word) ≡ First ci head → kindOf (g .word) ≡ Later ci 1 gsi c → Falling ci gsi cs gs → read head (c ∷ cs) ≡ reported r
+      → kindOf (f .word) ≡ First ci head → kindOf (g .word) ≡ Later ci 1 gsi c → Falling ci gsi cs gs → read head (c ∷ cs) ≡ gives r
       → WellFormed single read (f ∷ g ∷ gs) r
 
 -- a multi-group message of continuity index ci, by its first group

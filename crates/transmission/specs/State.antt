@@ -1,4 +1,4 @@
--- What an assembler holds between two calls (document 01, "The assembler"; ISO 14819-1, clause 9.4).
+-- What an assembler keeps between two calls (document 01, "The assembler"; ISO 14819-1, clause 9.4).
 use Prim.Native.Nat.{ℕ}
 use mathlib.Core.List.{List}
 use Rattle.word.specs.declared.Head.{Head}

@@ -1,19 +1,15 @@
--- One call of the assembler (document 01, "The assembler"; ISO 14819-1, clauses 7.3 and 9.4). How a message is read is left
--- open: `single` gives the report of a single-group message, `read` that of a head and the contents of its later groups.
+-- One call of the assembler (document 01, "The assembler"; ISO 14819-1, clauses 7.3 and 9.4), however messages are read.
 use Prim.Native.Nat.{ℕ, suc}
 use mathlib.Core.Bool.{Bool, cond, _&&_}
 use mathlib.Core.List.{List, [], _∷_, _++_}
 use lib.Dec.{eqb}
+use Rattle.bits.specs.Outcome.{Outcome, gives, refused}
 use Rattle.word.specs.declared.Head.{Head}
 use Rattle.word.specs.declared.Word.{Word}
 use Rattle.word.specs.declared.Word.the-variants.{Single, First, Later, Tuning, Administration, Index7, Beyond}
 use Rattle.word.specs.Kind.{kindOf}
+use Rattle.transmission.specs.Reading.{ReadsSingle, ReadsMulti}
 use Rattle.transmission.specs.State.{State, empty, started}
-
--- what the content of a whole message gives: a report, or the number of a refusal
-pub data Outcome (R : Type 0) : Type 0 where
-  reported : R → Outcome R
-  refused : ℕ → Outcome R
 
 pub data Answer (R : Type 0) : Type 0 where
   nothing : Answer R
@@ -39,15 +35,15 @@ inTurn last [] second gsi = eqb second 1
 inTurn last (c ∷ contents) second gsi = eqb second 0 && eqb last (suc gsi)
 
 -- the whole message is read
-unfoldable pub completed : {R : Type 0} → Outcome R → Step R
-completed (reported r) = emptying (report r)
+unfoldable pub completed : {R : Type 0} → Outcome R ℕ → Step R
+completed (gives r) = emptying (report r)
 completed (refused n) = emptying (refusal n)
 
 -- out of turn
 abbrev pub strayed : {R : Type 0} → Step R
 strayed = emptying (refusal 5)
 
-module _ {R : Type 0} (read : Head → List ℕ → Outcome R) where
+module _ {R : Type 0} (read : ReadsMulti R) where
   -- an open message with one later group more, its last: GSI 0 completes it
   unfoldable pub taken : ℕ → Head → ℕ → List ℕ → Step R
   taken ci head gsi contents = cond (eqb gsi 0) (completed (read head contents)) (leaving (started ci head gsi contents) nothing)
@@ -58,7 +54,7 @@ module _ {R : Type 0} (read : Head → List ℕ → Outcome R) where
   later (started index head last contents) ci second gsi content =
       cond (eqb index ci && inTurn last contents second gsi) (taken ci head gsi (contents ++ content ∷ [])) strayed
 
-module _ {R : Type 0} (single : ℕ → ℕ → Head → R) (read : Head → List ℕ → Outcome R) where
+module _ {R : Type 0} (single : ReadsSingle R) (read : ReadsMulti R) where
   -- a word, by its kind
   unfoldable pub stepBy : State → Word → Step R
   stepBy s (Single duration diversion head) = emptying (report (single duration diversion head))

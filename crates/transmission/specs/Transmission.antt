@@ -19,12 +19,12 @@ unfoldable pub groupsOf : {R : Type 0} → List (Message R) → List Group
 groupsOf [] = []
 groupsOf (m ∷ sent) = m .groups ++ groupsOf sent
 
--- how many messages have all their groups at the places from `from` up to `to`; the first one begins at `place`
+-- how many messages have all their groups at the positions from `from` up to `to`; the first one begins at `position`
 unfoldable pub held : {R : Type 0} → ℕ → ℕ → ℕ → List (Message R) → ℕ
-held from to place [] = 0
-held from to place (m ∷ sent) =
-    let beyond = place + length (m .groups) in
-    cond (leb from place && leb beyond to) 1 0 + held from to beyond sent
+held from to position [] = 0
+held from to position (m ∷ sent) =
+    let beyond = position + length (m .groups) in
+    cond (leb from position && leb beyond to) 1 0 + held from to beyond sent
 
 -- an unbroken loss is a run of lost groups, neighbours in the order sent; none holds k messages
 abbrev pub NoLossHolds : {R : Type 0} → ℕ → List (Message R) → Type 0

@@ -5,6 +5,7 @@ use mathlib.Core.Path.{_≡_, sym, ap, _∙_}
 use mathlib.Core.Bool.{true, false}
 use lib.ListN.{length, drop, drop-of-length-le}
 use borrow.Author.Tests.{not-true, not-false}
+use Rattle.report.specs.Read.{readReport}
 use Rattle.assembler.specs.declared.Assembler.{Assembler}
 use Rattle.messages.specs.Messages.{whole, wholeFrom}
 use Rattle.messages.proofs.Feeding.{whole-next}
@@ -13,37 +14,13 @@ use borrow.Author.Needs.{needs}
 use Rattle.messages.proofs.are_whole.Tie as tie
 
 abbrev Inv-loop : tie.InvT-loop
-Inv-loop words state₀ i₀ state i = (i ≤ length words) × (whole words ≡ wholeFrom state (drop i words))
+Inv-loop words state₀ i₀ state i = (i ≤ length words) × (whole readReport words ≡ wholeFrom readReport state (drop i words))
 
 abbrev μ-loop : tie.MeasureT-loop
 μ-loop words state₀ i₀ state i = length words - i
 
-new-requires : tie.Need-new-requires Inv-loop μ-loop
-new-requires c κs = search needs
-
 loop-holds : tie.Need-loop-holds Inv-loop μ-loop
-loop-holds c = (omega arith, sym (ap (λ (a : Assembler). wholeFrom a (c .before .before .args .words .now)) (c .new .ensures)))
-
-mul-word : tie.Need-mul-word Inv-loop μ-loop
-mul-word c = omega arith
-
-shared-slice-read-word : tie.Need-shared-slice-read-word Inv-loop μ-loop
-shared-slice-read-word c = omega arith
-
-step-requires : tie.Need-step-requires Inv-loop μ-loop
-step-requires c κs = search needs
-
-is-empty-requires : tie.Need-is-empty-requires Inv-loop μ-loop
-is-empty-requires c κs = search needs
-
-parse-requires : tie.Need-parse-requires Inv-loop μ-loop
-parse-requires c κs = search needs
-
-begins-requires : tie.Need-begins-requires Inv-loop μ-loop
-begins-requires c κs = search needs
-
-is-taken-requires : tie.Need-is-taken-requires Inv-loop μ-loop
-is-taken-requires c κs = search needs
+loop-holds c = (omega arith, sym (ap (λ (a : Assembler). wholeFrom readReport a (c .before .before .args .words .now)) (c .new .ensures)))
 
 returns : tie.Need-returns Inv-loop μ-loop
 returns c =
@@ -51,15 +28,9 @@ returns c =
     let l = b .before .before .before .before .before .before .before .loop in
     let ws = b .before .before .before .before .before .before .before .before .before .before .args .words .now in
     let s = b .before .before .before .before .step in
-    let here = whole-next (l .state) ws (l .i) _ _ _ false _ (s .result) (b .before .before .before .before .before .before .loop-test .taken)
+    let here = whole-next readReport (l .state) ws (l .i) _ _ _ false _ (s .result) (b .before .before .before .before .before .before .loop-test .taken)
     (b .before .before .before .is-empty .ensures) (b .before .before .parse .ensures) (b .before .begins .ensures) (s .ensures) (b .is-taken .ensures) (not-true _ (c .if1 .taken)) in
     sym (l .inv .1 ∙ here)
-
-add-i : tie.Need-add-i Inv-loop μ-loop
-add-i c = omega arith
-
-loop-less : tie.Need-loop-less Inv-loop μ-loop
-loop-less c = omega arith
 
 loop-again : tie.Need-loop-again Inv-loop μ-loop
 loop-again c =
@@ -67,19 +38,16 @@ loop-again c =
     let l = b .before .before .before .before .before .before .before .loop in
     let ws = b .before .before .before .before .before .before .before .before .before .before .args .words .now in
     let s = b .before .before .before .before .step in
-    let here = whole-next (l .state) ws (l .i) _ _ _ true _ (s .result) (b .before .before .before .before .before .before .loop-test .taken)
+    let here = whole-next readReport (l .state) ws (l .i) _ _ _ true _ (s .result) (b .before .before .before .before .before .before .loop-test .taken)
     (b .before .before .before .is-empty .ensures) (b .before .before .parse .ensures) (b .before .begins .ensures) (s .ensures) (b .is-taken .ensures) (not-false _ (c .if1 .left)) in
     (omega arith, rw add-one (l .inv .1 ∙ here))
-
-is-empty-requires-2 : tie.Need-is-empty-requires-2 Inv-loop μ-loop
-is-empty-requires-2 c κs = search needs
 
 returns-2 : tie.Need-returns-2 Inv-loop μ-loop
 unfolding wholeFrom
 returns-2 c =
     let l = c .before .before .loop in
     let ws = c .before .before .before .before .before .args .words .now in
-    c .is-empty2 .ensures ∙ sym (l .inv .1 ∙ ap (wholeFrom (l .state)) (drop-of-length-le ws (c .before .loop-test .left)))
+    c .is-empty2 .ensures ∙ sym (l .inv .1 ∙ ap (wholeFrom readReport (l .state)) (drop-of-length-le ws (c .before .loop-test .left)))
 
 pub are-whole-spec : {M : Type 1} → statement M
 are-whole-spec =
@@ -87,18 +55,18 @@ are-whole-spec =
     (tie.spec
     Inv-loop
     μ-loop
-    new-requires
+    (λ c κs. search needs)
     loop-holds
-    mul-word
-    shared-slice-read-word
-    step-requires
-    is-empty-requires
-    parse-requires
-    begins-requires
-    is-taken-requires
+    (λ c. omega arith)
+    (λ c. omega arith)
+    (λ c κs. search needs)
+    (λ c κs. search needs)
+    (λ c κs. search needs)
+    (λ c κs. search needs)
+    (λ c κs. search needs)
     returns
-    add-i
-    loop-less
+    (λ c. omega arith)
+    (λ c. omega arith)
     loop-again
-    is-empty-requires-2
+    (λ c κs. search needs)
     returns-2)

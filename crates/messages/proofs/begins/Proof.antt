@@ -9,9 +9,6 @@ use Rattle.messages.proofs.begins.Tie as tie
 enum-told : tie.Need-enum-told
 enum-told c = search needs
 
-enum-told-2 : tie.Need-enum-told-2
-enum-told-2 c = search needs
-
 returns : tie.Need-returns
 unfolding begins
 returns c = sym (ap begins (c .enum-told .given .1))
@@ -24,4 +21,4 @@ returns-3 : tie.Need-returns-3
 returns-3 c = sym (no-beginning (c .before .args .word) (c .match .keys3))
 
 pub begins-spec : {M : Type 1} → statement M
-begins-spec = tie.close (tie.spec enum-told enum-told-2 returns returns-2 returns-3)
+begins-spec = tie.close (tie.spec enum-told (λ c. search needs) returns returns-2 returns-3)

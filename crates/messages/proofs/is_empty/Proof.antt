@@ -8,9 +8,6 @@ use Rattle.messages.proofs.is_empty.Tie as tie
 enum-told : tie.Need-enum-told
 enum-told c = search needs
 
-enum-told-2 : tie.Need-enum-told-2
-enum-told-2 c = search needs
-
 returns : tie.Need-returns
 unfolding isEmpty
 returns c = sym (ap isEmpty (c .enum-told .given .1))
@@ -20,4 +17,4 @@ unfolding isEmpty
 returns-2 c = sym (ap isEmpty (c .enum-told2 .given .1))
 
 pub is-empty-spec : {M : Type 1} → statement M
-is-empty-spec = tie.close (tie.spec enum-told enum-told-2 returns returns-2)
+is-empty-spec = tie.close (tie.spec enum-told (λ c. search needs) returns returns-2)

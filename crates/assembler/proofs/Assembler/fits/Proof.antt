@@ -8,12 +8,6 @@ use Rattle.assembler.proofs.Assembler.fits.Tie as tie
 enum-told : tie.Need-enum-told
 enum-told c = search needs
 
-enum-known-self : tie.Need-enum-known-self
-enum-known-self c = search needs
-
-partial-fits-requires : tie.Need-partial-fits-requires
-partial-fits-requires c κs = search needs
-
 returns : tie.Need-returns
 unfolding fits
 returns c = sym (ap fits (c .enum-told .given .1))
@@ -23,4 +17,4 @@ unfolding fits
 returns-2 c = c .partial-fits .ensures ∙ sym (ap fits (c .before .before .self .given .1))
 
 pub fits-spec : {M : Type 1} → statement M
-fits-spec = tie.close (tie.spec enum-told enum-known-self partial-fits-requires returns returns-2)
+fits-spec = tie.close (tie.spec enum-told (λ c. search needs) (λ c κs. search needs) returns returns-2)

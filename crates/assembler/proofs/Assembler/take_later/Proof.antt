@@ -1,11 +1,12 @@
 -- By whether a message is open.
 use mathlib.Core.Path.{sym, ap, _∙_}
+use Rattle.report.specs.Read.{readReport}
 use Rattle.assembler.specs.declared.Assembler.{Assembler}
 use Rattle.assembler.specs.declared.Answer.the-variants.{Refused}
 use Rattle.transmission.specs.Step.{later}
-use Rattle.assembler.specs.Held.{stateOf, held}
+use Rattle.assembler.specs.State.{stateOf, assemblerOf}
 use Rattle.assembler.specs.Fits.{fits}
-use Rattle.assembler.specs.Answers.{readReport, answerOf, reportIn, given, withoutReport}
+use Rattle.assembler.specs.Answers.{answerOf, reportIn, given, withoutReport}
 use borrow.Author.Needs.{needs}
 use Rattle.assembler.proofs.Assembler.take_later.Statement.{statement}
 use Rattle.assembler.proofs.Assembler.take_later.Tie as tie
@@ -13,18 +14,12 @@ use Rattle.assembler.proofs.Assembler.take_later.Tie as tie
 enum-told : tie.Need-enum-told
 enum-told c = search needs
 
-without-report-requires : tie.Need-without-report-requires
-without-report-requires c κs = search needs
-
-enum-known-self : tie.Need-enum-known-self
-enum-known-self c = search needs
-
 later-requires : tie.Need-later-requires
 unfolding fits
 later-requires c κs = ap fits (sym (c .before .self .given .1)) ∙ c .before .before .before .pre
 
 returns : tie.Need-returns
-unfolding later stateOf held answerOf reportIn
+unfolding later stateOf assemblerOf answerOf reportIn
 returns c =
     let a = c .before .before .before .args in
     let none = c .before .enum-told .given .1 in
@@ -41,4 +36,4 @@ returns-2 c =
 pub take-later-spec : {M : Type 1} → statement M
 take-later-spec =
     tie.close
-    (tie.spec enum-told without-report-requires enum-known-self later-requires returns returns-2)
+    (tie.spec enum-told (λ c κs. search needs) (λ c. search needs) later-requires returns returns-2)

@@ -9,12 +9,6 @@ use borrow.Author.Needs.{needs}
 use Rattle.assembler.proofs.Partial.in_turn.Statement.{statement}
 use Rattle.assembler.proofs.Partial.in_turn.Tie as tie
 
-cast-result : tie.Need-cast-result
-cast-result c = search needs
-
-add-result : tie.Need-add-result
-add-result c = search needs
-
 returns : tie.Need-returns
 returns c = sym (first-turn _ _ _ (c .if1 .taken))
 
@@ -24,4 +18,4 @@ returns-2 c =
     ap (λ (n : ℕ). eqb (a .second) 0 && eqb (a .self .gsi) n) (add-one (a .gsi)) ∙ sym (next-turn (a .self) (a .second) (a .gsi) (c .before .if1 .left))
 
 pub in-turn-spec : {M : Type 1} → statement M
-in-turn-spec = tie.close (tie.spec cast-result add-result returns returns-2)
+in-turn-spec = tie.close (tie.spec (λ c. search needs) (λ c. search needs) returns returns-2)

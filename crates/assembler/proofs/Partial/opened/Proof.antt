@@ -1,6 +1,6 @@
 -- No content is there yet.
 use mathlib.Core.Path.{refl}
-use Rattle.assembler.specs.Held.{partialOf}
+use Rattle.assembler.specs.State.{partialOf}
 use Rattle.assembler.proofs.Partial.opened.Statement.{statement}
 use Rattle.assembler.proofs.Partial.opened.Tie as tie
 

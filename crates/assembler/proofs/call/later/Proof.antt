@@ -6,19 +6,13 @@ use Rattle.bits.proofs.Choice.{and-right}
 use Rattle.assembler.specs.declared.Partial.{Partial}
 use Rattle.assembler.specs.declared.Assembler.the-variants.{Started}
 use Rattle.assembler.specs.declared.Answer.the-variants.{Nothing}
-use Rattle.assembler.specs.Held.{held}
+use Rattle.assembler.specs.State.{assemblerOf}
 use Rattle.assembler.specs.Answers.{answerOf, reportIn, given, withoutReport}
-use Rattle.assembler.proofs.Holding.{opened}
+use Rattle.assembler.proofs.States.{opened}
 use Rattle.assembler.proofs.Turns.{room, last-group, another-group, stray-group}
 use borrow.Author.Needs.{needs}
 use Rattle.assembler.proofs.call.later.Statement.{statement}
 use Rattle.assembler.proofs.call.later.Tie as tie
-
-in-turn-requires : tie.Need-in-turn-requires
-in-turn-requires c κs = search needs
-
-completed-requires : tie.Need-completed-requires
-completed-requires c κs = search needs
 
 extended-requires : tie.Need-extended-requires
 extended-requires c κs =
@@ -26,12 +20,6 @@ extended-requires c κs =
     let a = start .args in
     let t = ap (λ (b : Bool). eqb (a .p .ci) (a .ci) && b) (sym (c .before .before .in-turn .ensures)) ∙ c .before .if1 .taken in
     (room (a .p) (a .second) (a .gsi) (and-right (eqb (a .p .ci) (a .ci)) _ t) (opened (a .p) (start .pre) .count) (c .if2 .left), start .pre)
-
-without-report-requires : tie.Need-without-report-requires
-without-report-requires c κs = search needs
-
-without-report-requires-2 : tie.Need-without-report-requires-2
-without-report-requires-2 c κs = search needs
 
 returns : tie.Need-returns
 returns c =
@@ -41,7 +29,7 @@ returns c =
     c .completed .ensures ∙ ap given (last-group (a .p) (a .ci) (a .second) (a .gsi) (a .content) t (c .before .if2 .taken))
 
 returns-2 : tie.Need-returns-2
-unfolding held answerOf reportIn
+unfolding assemblerOf answerOf reportIn
 returns-2 c =
     let start = c .before .before .before .before .before .before in
     let a = start .args in
@@ -51,7 +39,7 @@ returns-2 c =
     ∙ ap given (another-group (a .p) (a .ci) (a .second) (a .gsi) (a .content) t (c .before .before .if2 .left))
 
 returns-3 : tie.Need-returns-3
-unfolding held answerOf reportIn
+unfolding assemblerOf answerOf reportIn
 returns-3 c =
     let start = c .before .before .before .before in
     let a = start .args in
@@ -62,11 +50,11 @@ pub later-spec : {M : Type 1} → statement M
 later-spec =
     tie.close
     (tie.spec
-    in-turn-requires
-    completed-requires
+    (λ c κs. search needs)
+    (λ c κs. search needs)
     extended-requires
-    without-report-requires
-    without-report-requires-2
+    (λ c κs. search needs)
+    (λ c κs. search needs)
     returns
     returns-2
     returns-3)

@@ -1,4 +1,4 @@
--- By whether the place is in use.
+-- By whether the position is in use.
 use mathlib.Core.Path.{sym, _∙_}
 use borrow.Author.Tests.{lt-ltb, le-ltb}
 use Rattle.bits.proofs.Choice.{chosen, passed-over}
@@ -6,9 +6,6 @@ use Rattle.assembler.specs.Joining.{groupBefore, putBefore}
 use borrow.Author.Needs.{needs}
 use Rattle.assembler.proofs.join.before.Statement.{statement}
 use Rattle.assembler.proofs.join.before.Tie as tie
-
-prefixed-requires : tie.Need-prefixed-requires
-prefixed-requires c κs = search needs
 
 returns : tie.Need-returns
 unfolding groupBefore putBefore
@@ -19,4 +16,4 @@ unfolding putBefore
 returns-2 c = sym (passed-over _ _ _ (le-ltb _ _ (c .if1 .left)))
 
 pub before-spec : {M : Type 1} → statement M
-before-spec = tie.close (tie.spec prefixed-requires returns returns-2)
+before-spec = tie.close (tie.spec (λ c κs. search needs) returns returns-2)

@@ -3,29 +3,14 @@ use mathlib.Core.Path.{ap, _∙_}
 use lib.ListN.{take}
 use Prim.Native.Nat.{_+_, _*_}
 use Rattle.content.specs.declared.content.Content.{Content}
-use Rattle.content.specs.Held.{bitsOf}
+use Rattle.content.specs.Halves.{bitsOf}
 use Rattle.content.specs.Packing.{groupBits}
-use Rattle.assembler.specs.Held.{contentsOf}
+use Rattle.assembler.specs.State.{contentsOf}
 use Rattle.assembler.specs.Joining.{groupBefore, putBefore}
 use Rattle.assembler.proofs.Joins.{put-before}
 use borrow.Author.Needs.{needs}
 use Rattle.assembler.proofs.join.joined.Statement.{statement}
 use Rattle.assembler.proofs.join.joined.Tie as tie
-
-new-requires : tie.Need-new-requires
-new-requires c κs = search needs
-
-prefixed-requires : tie.Need-prefixed-requires
-prefixed-requires c κs = search needs
-
-before-requires : tie.Need-before-requires
-before-requires c κs = search needs
-
-before-requires-2 : tie.Need-before-requires-2
-before-requires-2 c κs = search needs
-
-before-requires-3 : tie.Need-before-requires-3
-before-requires-3 c κs = search needs
 
 returns : tie.Need-returns
 unfolding contentsOf groupBefore
@@ -46,9 +31,9 @@ pub joined-spec : {M : Type 1} → statement M
 joined-spec =
     tie.close
     (tie.spec
-    new-requires
-    prefixed-requires
-    before-requires
-    before-requires-2
-    before-requires-3
+    (λ c κs. search needs)
+    (λ c κs. search needs)
+    (λ c κs. search needs)
+    (λ c κs. search needs)
+    (λ c κs. search needs)
     returns)

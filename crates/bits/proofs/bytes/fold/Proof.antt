@@ -28,20 +28,11 @@ loop-holds c = (search needs, refl)
 mul-x : tie.Need-mul-x Inv-loop μ-loop
 mul-x c = omega (arith, below c)
 
-shared-slice-read-wide : tie.Need-shared-slice-read-wide Inv-loop μ-loop
-shared-slice-read-wide c = omega arith
-
 wide-requires : tie.Need-wide-requires Inv-loop μ-loop
 wide-requires c κs = tt
 
 add-x : tie.Need-add-x Inv-loop μ-loop
 add-x c = omega (arith, below (c .before .before), c .before .shared-slice-known2 .given (c .before .before .before .loop .i), c .wide .ensures)
-
-add-i : tie.Need-add-i Inv-loop μ-loop
-add-i c = omega arith
-
-loop-less : tie.Need-loop-less Inv-loop μ-loop
-loop-less c = omega arith
 
 loop-again : tie.Need-loop-again Inv-loop μ-loop
 loop-again c =
@@ -64,10 +55,10 @@ fold-spec =
     μ-loop
     loop-holds
     mul-x
-    shared-slice-read-wide
+    (λ c. omega arith)
     wide-requires
     add-x
-    add-i
-    loop-less
+    (λ c. omega arith)
+    (λ c. omega arith)
     loop-again
     returns)

@@ -20,34 +20,16 @@ fold-requires c κs = omega (arith, length-take-le 4 (c .before .before .before 
 mul-result : tie.Need-mul-result
 mul-result c = omega (arith, c .fold .ensures, load-lt (c .before .before .before .before .args .s .now) 4 4 (omega arith) (omega arith))
 
-sub-fold : tie.Need-sub-fold
-sub-fold c = search needs
-
-part-fold-start : tie.Need-part-fold-start
-part-fold-start c = search needs
-
-part-fold-end : tie.Need-part-fold-end
-part-fold-end c = search needs
-
-fold-requires-2 : tie.Need-fold-requires-2
-fold-requires-2 c κs = search needs
-
 add-result : tie.Need-add-result
 add-result c =
     let s = c .before .before .before .before .before .before .args .s .now in
     omega (arith, c .before .before .fold .ensures, c .fold2 .ensures, load-lt s 4 4 (omega arith) (omega arith), load-lt (drop 4 s) (length s - 4) 4 (omega (arith, length-drop 4 s)) (omega arith))
-
-fold-requires-3 : tie.Need-fold-requires-3
-fold-requires-3 c κs = search needs
 
 returns : tie.Need-returns
 returns c =
     let s = c .before .before .before .before .before .before .args .s .now in
     let rest : length s - 4 ≡ 4 = omega arith in
     ap₂ (λ (x y : ℕ). x * 2 ^ 32 + y) (c .before .before .fold .ensures) (c .fold2 .ensures ∙ ap (λ (n : ℕ). val (flat 8 (take n (drop 4 s)))) rest) ∙ load-parts s 4 4 (omega arith)
-
-returns-2 : tie.Need-returns-2
-returns-2 c = search needs
 
 pub load-spec : {M : Type 1} → statement M
 load-spec =
@@ -56,11 +38,11 @@ load-spec =
     slice-aggregate-fold
     fold-requires
     mul-result
-    sub-fold
-    part-fold-start
-    part-fold-end
-    fold-requires-2
+    (search needs)
+    (search needs)
+    (search needs)
+    (search needs)
     add-result
-    fold-requires-3
+    (search needs)
     returns
-    returns-2)
+    (search needs))

@@ -9,11 +9,8 @@ use lib.Pow.{shl-exact}
 use Rattle.bits.proofs.bytes.pow2.Statement.{statement}
 use Rattle.bits.proofs.bytes.pow2.Tie as tie
 
-shl-result : tie.Need-shl-result
-shl-result c = search needs
-
 returns : tie.Need-returns
 returns c = shl-exact 1 (c .args .w) 64 (lit< tt) (omega arith) ∙ one-mul (2 ^ c .args .w)
 
 pub pow2-spec : {M : Type 1} → statement M
-pow2-spec = tie.close (tie.spec shl-result returns)
+pow2-spec = tie.close (tie.spec (search needs) returns)

@@ -65,17 +65,8 @@ end s₀ v s rest i g h =
 loop-holds : tie.Need-loop-holds Inv-loop μ-loop
 loop-holds c = start _ _
 
-sub-i : tie.Need-sub-i Inv-loop μ-loop
-sub-i c = search needs
-
-cast-s : tie.Need-cast-s Inv-loop μ-loop
-cast-s c = search needs
-
 slice-write-s : tie.Need-slice-write-s Inv-loop μ-loop
 slice-write-s c = omega (arith, kept _ _ _ _ _ (c .before .loop .inv))
-
-loop-less : tie.Need-loop-less Inv-loop μ-loop
-loop-less c = omega arith
 
 loop-again : tie.Need-loop-again Inv-loop μ-loop
 loop-again c = more _ _ _ _ _ (c .loop-test .taken) (c .before .loop .inv)
@@ -93,10 +84,10 @@ store-spec =
     Inv-loop
     μ-loop
     loop-holds
-    sub-i
-    cast-s
+    (search needs)
+    (search needs)
     slice-write-s
-    loop-less
+    (λ c. omega arith)
     loop-again
     same-length
     returns)

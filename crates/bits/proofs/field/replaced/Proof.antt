@@ -9,23 +9,11 @@ use Rattle.bits.proofs.Replacing.{low-part-lt, kept-high-lt}
 use Rattle.bits.proofs.field.replaced.Statement.{statement}
 use Rattle.bits.proofs.field.replaced.Tie as tie
 
-add-pow2 : tie.Need-add-pow2
-add-pow2 c = search needs
-
-pow2-requires : tie.Need-pow2-requires
-pow2-requires c κs = search needs
-
-pow2-requires-2 : tie.Need-pow2-requires-2
-pow2-requires-2 c κs = search needs
-
 div-result : tie.Need-div-result
 div-result c = rw (c .before .pow2 .ensures) (pow-pos _)
 
 mul-result : tie.Need-mul-result
 mul-result c = record { fits = lt-of-le-of-lt (div-mul-le-self (c .before .before .args .x) (c .before .pow2 .result)) (c .before .before .fits .x .fits) }
-
-pow2-requires-3 : tie.Need-pow2-requires-3
-pow2-requires-3 c κs = search needs
 
 rem-result : tie.Need-rem-result
 rem-result c = rw (c .pow23 .ensures) (pow-pos _)
@@ -62,12 +50,12 @@ pub replaced-spec : {M : Type 1} → statement M
 replaced-spec =
     tie.close
     (tie.spec
-    add-pow2
-    pow2-requires
-    pow2-requires-2
+    (search needs)
+    (search needs)
+    (search needs)
     div-result
     mul-result
-    pow2-requires-3
+    (search needs)
     rem-result
     mul-result-2
     rem-result-2

@@ -39,12 +39,6 @@ loop-holds c =
     let a = c .before .before .args in
     (search needs, sym (ap (λ (n : ℕ). a .at + n) (zero-mul (a .w)) ∙ add-zero (a .at)), refl, unfold flat in sym (overlay-none (a .at) (flat 8 (a .s .now))))
 
-mul-put-bits : tie.Need-mul-put-bits Inv-loop μ-loop
-mul-put-bits c = omega arith
-
-shared-slice-read-put-bits : tie.Need-shared-slice-read-put-bits Inv-loop μ-loop
-shared-slice-read-put-bits c = omega arith
-
 put-bits-requires : tie.Need-put-bits-requires Inv-loop μ-loop
 put-bits-requires c κs =
     let a = c .before .before .before .before .before .before .args in
@@ -56,12 +50,6 @@ add-p c =
     let a = c .before .before .before .before .before .before .before .before .before .args in
     let l = c .before .before .before .before .before .before .loop in
     omega (arith, next-inside (a .at) (a .w) (l .i) (length (a .ws .now)) (length (a .s .now) * 8) (omega arith) (omega arith))
-
-add-i : tie.Need-add-i Inv-loop μ-loop
-add-i c = omega arith
-
-loop-less : tie.Need-loop-less Inv-loop μ-loop
-loop-less c = omega arith
 
 loop-again : tie.Need-loop-again Inv-loop μ-loop
 loop-again c =
@@ -92,12 +80,12 @@ put-words-spec =
     Inv-loop
     μ-loop
     loop-holds
-    mul-put-bits
-    shared-slice-read-put-bits
+    (λ c. omega arith)
+    (λ c. omega arith)
     put-bits-requires
     add-p
-    add-i
-    loop-less
+    (λ c. omega arith)
+    (λ c. omega arith)
     loop-again
     same-length
     returns)

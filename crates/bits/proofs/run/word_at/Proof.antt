@@ -17,25 +17,13 @@ eight n w e = (leb-true 8 n (and-left (leb 8 n) (ltb 0 w) e), ltb-true 0 w (and-
 sub-least : tie.Need-sub-least
 sub-least c = omega (arith, eight (length (c .before .before .args .s .now)) (c .before .before .args .w) (c .if1 .taken))
 
-least-requires : tie.Need-least-requires
-least-requires c κs = search needs
-
 in-eight-requires : tie.Need-in-eight-requires
 in-eight-requires c κs =
     let a = c .before .before .before .args in
     let test = eight (length (a .s .now)) (a .w) (c .before .if1 .taken) in
     (omega arith, omega arith, omega arith, omega arith, omega arith)
 
-bits-at-requires : tie.Need-bits-at-requires
-bits-at-requires c κs = search needs
-
-returns : tie.Need-returns
-returns c = search needs
-
-returns-2 : tie.Need-returns-2
-returns-2 c = search needs
-
 pub word-at-spec : {M : Type 1} → statement M
 word-at-spec =
     tie.close
-    (tie.spec sub-least least-requires in-eight-requires bits-at-requires returns returns-2)
+    (tie.spec sub-least (search needs) in-eight-requires (search needs) (search needs) (search needs))

@@ -43,23 +43,11 @@ word-at-requires c κs =
     let l = c .before .loop in
     (omega arith, omega (arith, next-inside (a .at) (a .w) (l .i) (length (a .out .now)) (length (a .s .now) * 8) (omega arith) (omega arith)))
 
-mul-out : tie.Need-mul-out Inv-loop μ-loop
-mul-out c = omega arith
-
-slice-write-out : tie.Need-slice-write-out Inv-loop μ-loop
-slice-write-out c = omega arith
-
 add-p : tie.Need-add-p Inv-loop μ-loop
 add-p c =
     let a = c .before .before .before .before .before .args in
     let l = c .before .before .loop in
     omega (arith, next-inside (a .at) (a .w) (l .i) (length (a .out .now)) (length (a .s .now) * 8) (omega arith) (omega arith))
-
-add-i : tie.Need-add-i Inv-loop μ-loop
-add-i c = omega arith
-
-loop-less : tie.Need-loop-less Inv-loop μ-loop
-loop-less c = omega arith
 
 loop-again : tie.Need-loop-again Inv-loop μ-loop
 loop-again c =
@@ -94,11 +82,11 @@ words-at-spec =
     μ-loop
     loop-holds
     word-at-requires
-    mul-out
-    slice-write-out
+    (λ c. omega arith)
+    (λ c. omega arith)
     add-p
-    add-i
-    loop-less
+    (λ c. omega arith)
+    (λ c. omega arith)
     loop-again
     same-length
     returns)

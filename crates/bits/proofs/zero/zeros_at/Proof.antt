@@ -34,9 +34,6 @@ cut l p left m h =
 loop-holds : tie.Need-loop-holds Inv-loop μ-loop
 loop-holds c = (refl, refl)
 
-bits-at-requires : tie.Need-bits-at-requires Inv-loop μ-loop
-bits-at-requires c κs = omega arith
-
 returns : tie.Need-returns Inv-loop μ-loop
 returns c =
     let a = c .before .before .before .before .before .args in
@@ -45,15 +42,6 @@ returns c =
     sym (l .inv .1
     ∙ cut (flat 8 (a .s .now)) (l .p) (l .left) 56 (omega arith)
     ∙ ap (λ (b : Bool). b && allZero (stretch (l .p + 56) (l .left - 56) (flat 8 (a .s .now)))) (ne-eqb x 0 (λ e. c .if1 .taken (c .before .bits-at .ensures ∙ e))))
-
-add-p : tie.Need-add-p Inv-loop μ-loop
-add-p c = omega arith
-
-sub-left : tie.Need-sub-left Inv-loop μ-loop
-sub-left c = omega arith
-
-loop-less : tie.Need-loop-less Inv-loop μ-loop
-loop-less c = omega arith
 
 loop-again : tie.Need-loop-again Inv-loop μ-loop
 loop-again c =
@@ -65,9 +53,6 @@ loop-again c =
           ∙ cut (flat 8 (a .s .now)) (l .p) (l .left) 56 (omega arith)
           ∙ ap (λ (b : Bool). b && allZero (stretch (l .p + 56) (l .left - 56) (flat 8 (a .s .now)))) (eq-eqb x 0 (sym (c .before .bits-at .ensures) ∙ c .if1 .left)),
     )
-
-bits-at-requires-2 : tie.Need-bits-at-requires-2 Inv-loop μ-loop
-bits-at-requires-2 c κs = omega arith
 
 returns-2 : tie.Need-returns-2 Inv-loop μ-loop
 returns-2 c =
@@ -82,11 +67,11 @@ zeros-at-spec =
     Inv-loop
     μ-loop
     loop-holds
-    bits-at-requires
+    (λ c κs. omega arith)
     returns
-    add-p
-    sub-left
-    loop-less
+    (λ c. omega arith)
+    (λ c. omega arith)
+    (λ c. omega arith)
     loop-again
-    bits-at-requires-2
+    (λ c κs. omega arith)
     returns-2)

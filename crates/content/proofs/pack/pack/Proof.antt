@@ -64,20 +64,8 @@ loop-holds c =
     let e : drop (s .count) (listed s) ≡ [] = ap (λ (i : ℕ). drop i (listed s)) (sym (length-listed s n h)) ∙ drop-length (listed s) in
     (omega arith, h, c .new .ensures ∙ sym (ap (λ (its : List Item). packedIf (packable its) its) e))
 
-sub-i : tie.Need-sub-i Inv-loop μ-loop
-sub-i c = omega arith
-
-mul-item : tie.Need-mul-item Inv-loop μ-loop
-mul-item c = omega arith
-
-element-copy-out-item : tie.Need-element-copy-out-item Inv-loop μ-loop
-element-copy-out-item c = omega arith
-
 prepended-requires : tie.Need-prepended-requires Inv-loop μ-loop
 prepended-requires c κs = tt
-
-loop-less : tie.Need-loop-less Inv-loop μ-loop
-loop-less c = omega arith
 
 loop-again : tie.Need-loop-again Inv-loop μ-loop
 loop-again c =
@@ -119,10 +107,10 @@ pack-spec =
     returns-2
     new-requires
     loop-holds
-    sub-i
-    mul-item
-    element-copy-out-item
+    (λ c. omega arith)
+    (λ c. omega arith)
+    (λ c. omega arith)
     prepended-requires
-    loop-less
+    (λ c. omega arith)
     loop-again
     returns-3)

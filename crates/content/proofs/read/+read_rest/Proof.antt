@@ -10,8 +10,8 @@ use borrow.Fn.Kinds.{In}
 use borrow.Fn.PlainCycle.{Measures, is, falls, and}
 use Rattle.bits.specs.Bits.{allZero}
 use Rattle.content.specs.Items.{Reading, items}
-use Rattle.content.specs.Held.{remaining}
-use Rattle.content.specs.Stored.{held, filled, listed}
+use Rattle.content.specs.Halves.{remaining}
+use Rattle.content.specs.Stored.{inCells, filled, listed}
 use Rattle.content.specs.Answers.{appended, Told}
 use Rattle.content.specs.declared.item.Item.{Item}
 use Rattle.content.proofs.Places.{listed-filled, put-item, refilled}
@@ -50,7 +50,7 @@ module _ (t : ℕ) where
   returns c =
       let a = c .before .before .args in
       let p = c .before .before .pre .1 in
-      let found = held (a .count .now) (a .cells .now) in
+      let found = inCells (a .count .now) (a .cells .now) in
       let z : allZero (remaining (a .rest)) ≡ true = sym (c .before .is-zero .ensures) ∙ c .if1 .taken in
       (p .0, subst (λ (x : Reading). Told x 0 found) (sym (found-all (listed found) (remaining (a .rest)) z)) (refl, sym (p .2)))
 
@@ -104,7 +104,7 @@ module _ (t : ℕ) where
       let cells = a .cells .now in
       let four = took-four (a .rest) (d .take-item .result) (d .take-item .ensures .0) (x .0 .0) (x .0 .1 .0) (x .1) (omega arith) (d .take-item .ensures .1) in
       let put = put-item n cells (x .0 .0) (omega arith) (omega arith) (p .2) in
-      (omega arith, (length-set (set cells (2 * n) (x .0 .0 .label)) (2 * n + 1) (x .0 .0 .value) ∙ length-set cells (2 * n) (x .0 .0 .label) ∙ p .0, omega arith, refilled (listed (held n cells) ++ (x .0 .0 ∷ [])) _ put))
+      (omega arith, (length-set (set cells (2 * n) (x .0 .0 .label)) (2 * n + 1) (x .0 .0 .value) ∙ length-set cells (2 * n) (x .0 .0 .label) ∙ p .0, omega arith, refilled (listed (inCells n cells) ++ (x .0 .0 ∷ [])) _ put))
 
   enum-known-n : lts.Need-enum-known-n (callees t) (at-measure t) reads.Post
   enum-known-n c = search needs
@@ -117,13 +117,13 @@ module _ (t : ℕ) where
       let x = c .before .before .before .before .before .item .given in
       let n = a .count .now in
       let cells = a .cells .now in
-      let found = listed (held n cells) in
+      let found = listed (inCells n cells) in
       let four = took-four (a .rest) (d .take-item .result) (d .take-item .ensures .0) (x .0 .0) (x .0 .1 .0) (x .1) (omega arith) (d .take-item .ensures .1) in
       let put = put-item n cells (x .0 .0) (omega arith) (omega arith) (p .2) in
       let z : allZero (remaining (a .rest)) ≡ false = sym (d .before .before .is-zero .ensures) ∙ d .before .if1 .left in
       let more = found-one found (remaining (a .rest)) (x .0 .0) (remaining (x .0 .1 .0)) z (took-item (a .rest) (d .take-item .result) (d .take-item .ensures .0) (x .0 .0) (x .0 .1 .0) (x .1)) in
       let now = ap listed put ∙ listed-filled (found ++ (x .0 .0 ∷ [])) in
-      (c .read-rest .ensures .0, subst (λ (y : Reading). Told y (c .read-rest .result) (held (c .read-rest .last .1 .0) (c .read-rest .last .1 .1 .0))) (ap (λ (l : List Item). appended l (items (remaining (x .0 .1 .0)))) now ∙ sym more) (c .read-rest .ensures .1))
+      (c .read-rest .ensures .0, subst (λ (y : Reading). Told y (c .read-rest .result) (inCells (c .read-rest .last .1 .0) (c .read-rest .last .1 .1 .0))) (ap (λ (l : List Item). appended l (items (remaining (x .0 .1 .0)))) now ∙ sym more) (c .read-rest .ensures .1))
 
   returns-3 : lts.Need-returns-3 (callees t) (at-measure t) reads.Post
   unfolding Told
@@ -132,7 +132,7 @@ module _ (t : ℕ) where
       let a = d .before .before .before .args in
       let p = d .before .before .before .pre .1 in
       let x = c .before .n .given in
-      let found = held (a .count .now) (a .cells .now) in
+      let found = inCells (a .count .now) (a .cells .now) in
       let z : allZero (remaining (a .rest)) ≡ false = sym (d .before .before .is-zero .ensures) ∙ d .before .if1 .left in
       let e = found-refused (listed found) (remaining (a .rest)) (x .0 .0) z (took-none (a .rest) (d .take-item .result) (d .take-item .ensures .0) (x .0 .0) (x .1)) in
       (p .0, subst (λ (y : Reading). Told y (x .0 .0) found) (sym e) (refl, took-number (a .rest) (d .take-item .result) (d .take-item .ensures .0) (x .0 .0) (x .1)))

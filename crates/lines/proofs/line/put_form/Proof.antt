@@ -9,18 +9,6 @@ use Rattle.lines.proofs.Puts.{put-as, put-then}
 use Rattle.lines.proofs.line.put_form.Statement.{statement}
 use Rattle.lines.proofs.line.put_form.Tie as tie
 
-put-byte-requires : tie.Need-put-byte-requires
-put-byte-requires c κs = search needs
-
-letter-requires : tie.Need-letter-requires
-letter-requires c κs = search needs
-
-put-byte-requires-2 : tie.Need-put-byte-requires-2
-put-byte-requires-2 c κs = search needs
-
-same-length : tie.Need-same-length
-same-length c = search needs
-
 returns : tie.Need-returns
 returns c =
     let a = c .before .before .before .before .before .before .before .before .before .before .args in
@@ -31,4 +19,4 @@ returns c =
 
 pub put-form-spec : {M : Type 1} → statement M
 put-form-spec =
-    tie.close (tie.spec put-byte-requires letter-requires put-byte-requires-2 same-length returns)
+    tie.close (tie.spec (λ c κs. search needs) (λ c κs. search needs) (λ c κs. search needs) (λ c. search needs) returns)

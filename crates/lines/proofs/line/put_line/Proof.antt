@@ -23,9 +23,6 @@ put-fields-requires c κs = omega (arith, c .before .before .before .before .bef
 put-byte-requires : tie.Need-put-byte-requires
 put-byte-requires c κs = omega (arith, c .before .before .before .before .before .before .before .before .before .before .before .before .before .before .before .pre, line-length (c .before .before .before .before .before .before .before .before .before .before .before .before .before .before .before .args .number) (c .before .before .before .before .before .before .before .before .before .before .before .before .before .before .before .args .form) (c .before .before .before .before .before .before .before .before .before .before .before .before .before .before .before .args .values .now), c .before .before .before .put-fields .ensures .0, c .before .before .before .put-fields .kept .0, c .before .before .before .before .before .before .before .put-form .ensures .0, c .before .before .before .before .before .before .before .put-form .kept .0, c .before .before .before .before .before .before .before .before .before .before .before .put-decimal .ensures .0, c .before .before .before .before .before .before .before .before .before .before .before .put-decimal .kept .0)
 
-same-length : tie.Need-same-length
-same-length c = search needs
-
 returns : tie.Need-returns
 unfolding line
 returns c =
@@ -43,5 +40,5 @@ put-line-spec =
     put-form-requires
     put-fields-requires
     put-byte-requires
-    same-length
+    (λ c. search needs)
     returns)

@@ -14,9 +14,6 @@ use Rattle.lines.proofs.line.put_refusal.Tie as tie
 put-byte-requires : tie.Need-put-byte-requires
 put-byte-requires c κs = omega (arith, c .before .before .pre)
 
-slice-aggregate-put-fields : tie.Need-slice-aggregate-put-fields
-slice-aggregate-put-fields c = search needs
-
 put-fields-requires : tie.Need-put-fields-requires
 put-fields-requires c κs = omega (arith, c .before .before .before .before .before .before .before .pre, c .before .before .before .before .put-byte .ensures .0, c .before .before .before .before .put-byte .kept .0, refusal-length (c .before .before .before .before .before .before .before .args .number) (c .before .before .before .before .before .before .before .args .refusal), two-fields (c .before .before .before .before .before .before .before .args .number) (c .before .before .before .before .before .before .before .args .refusal) (omega arith) (omega arith))
 
@@ -40,7 +37,7 @@ put-refusal-spec =
     tie.close
     (tie.spec
     put-byte-requires
-    slice-aggregate-put-fields
+    (λ c. search needs)
     put-fields-requires
     put-byte-requires-2
     same-length

@@ -20,20 +20,11 @@ abbrev μ-loop : tie.MeasureT-loop
 loop-holds : tie.Need-loop-holds Inv-loop μ-loop
 loop-holds c = (omega arith, left-all _ _ _)
 
-shared-slice-read-put-byte : tie.Need-shared-slice-read-put-byte Inv-loop μ-loop
-shared-slice-read-put-byte c = search needs
-
 put-byte-requires : tie.Need-put-byte-requires Inv-loop μ-loop
 put-byte-requires c κs =
     let l = c .before .before .before .loop in
     let a = c .before .before .before .before .before .before .args in
-    omega (arith, l .inv .1 .place, l .inv .1 .same, c .before .before .before .before .before .before .pre, length-drop (l .i) (a .s .now))
-
-add-i : tie.Need-add-i Inv-loop μ-loop
-add-i c = search needs
-
-loop-less : tie.Need-loop-less Inv-loop μ-loop
-loop-less c = search needs
+    omega (arith, l .inv .1 .position, l .inv .1 .same, c .before .before .before .before .before .before .pre, length-drop (l .i) (a .s .now))
 
 loop-again : tie.Need-loop-again Inv-loop μ-loop
 loop-again c =
@@ -41,7 +32,7 @@ loop-again c =
     let a = c .before .before .before .before .before .before .before .before .before .args in
     let call = c .before .before .put-byte in
     let next = drop-cons (a .s .now) (l .i) 0 (c .before .before .before .before .before .loop-test .taken) ∙ ap (λ (n : ℕ). getD (a .s .now) (l .i) 0 ∷ drop n (a .s .now)) (sym (add-one (l .i))) in
-    (omega arith, left-more (a .at) (a .s .now) (a .out .now) (getD (a .s .now) (l .i) 0 ∷ []) _ (l .p) _ (l .out) _ (omega (arith, l .inv .1 .place, l .inv .1 .same, c .before .before .before .before .before .before .before .before .before .pre)) (subst (λ (r : List ℕ). Left (a .at) (a .s .now) (a .out .now) r (l .p) (l .out)) next (l .inv .1)) (call .ensures) (call .kept .0))
+    (omega arith, left-more (a .at) (a .s .now) (a .out .now) (getD (a .s .now) (l .i) 0 ∷ []) _ (l .p) _ (l .out) _ (omega (arith, l .inv .1 .position, l .inv .1 .same, c .before .before .before .before .before .before .before .before .before .pre)) (subst (λ (r : List ℕ). Left (a .at) (a .s .now) (a .out .now) r (l .p) (l .out)) next (l .inv .1)) (call .ensures) (call .kept .0))
 
 same-length : tie.Need-same-length Inv-loop μ-loop
 same-length c = c .before .loop .inv .1 .same
@@ -59,10 +50,10 @@ put-bytes-spec =
     Inv-loop
     μ-loop
     loop-holds
-    shared-slice-read-put-byte
+    (λ c. search needs)
     put-byte-requires
-    add-i
-    loop-less
+    (λ c. search needs)
+    (λ c. search needs)
     loop-again
     same-length
     returns)

@@ -21,23 +21,11 @@ abbrev μ-loop : tie.MeasureT-loop
 loop-holds : tie.Need-loop-holds Inv-loop μ-loop
 loop-holds c = (omega arith, left-all _ _ _)
 
-mul-put-field : tie.Need-mul-put-field Inv-loop μ-loop
-mul-put-field c = omega arith
-
-shared-slice-read-put-field : tie.Need-shared-slice-read-put-field Inv-loop μ-loop
-shared-slice-read-put-field c = search needs
-
 put-field-requires : tie.Need-put-field-requires Inv-loop μ-loop
 put-field-requires c κs =
     let l = c .before .before .before .loop in
     let a = c .before .before .before .before .before .before .args in
-    omega (arith, l .inv .1 .place, l .inv .1 .same, c .before .before .before .before .before .before .pre, ap length (fields-next (a .values .now) (l .i) (c .before .before .loop-test .taken)), length-append (space ∷ decimal (getD (a .values .now) (l .i) 0)) (fields (drop (l .i + 1) (a .values .now))))
-
-add-i : tie.Need-add-i Inv-loop μ-loop
-add-i c = search needs
-
-loop-less : tie.Need-loop-less Inv-loop μ-loop
-loop-less c = search needs
+    omega (arith, l .inv .1 .position, l .inv .1 .same, c .before .before .before .before .before .before .pre, ap length (fields-next (a .values .now) (l .i) (c .before .before .loop-test .taken)), length-append (space ∷ decimal (getD (a .values .now) (l .i) 0)) (fields (drop (l .i + 1) (a .values .now))))
 
 loop-again : tie.Need-loop-again Inv-loop μ-loop
 loop-again c =
@@ -45,7 +33,7 @@ loop-again c =
     let a = c .before .before .before .before .before .before .before .before .before .args in
     let call = c .before .before .put-field in
     let next = fields-next (a .values .now) (l .i) (c .before .before .before .before .before .loop-test .taken) in
-    (omega arith, left-more (a .at) (fields (a .values .now)) (a .out .now) (space ∷ decimal (getD (a .values .now) (l .i) 0)) _ (l .p) _ (l .out) _ (omega (arith, l .inv .1 .place, l .inv .1 .same, c .before .before .before .before .before .before .before .before .before .pre)) (subst (λ (r : List ℕ). Left (a .at) (fields (a .values .now)) (a .out .now) r (l .p) (l .out)) next (l .inv .1)) (call .ensures) (call .kept .0))
+    (omega arith, left-more (a .at) (fields (a .values .now)) (a .out .now) (space ∷ decimal (getD (a .values .now) (l .i) 0)) _ (l .p) _ (l .out) _ (omega (arith, l .inv .1 .position, l .inv .1 .same, c .before .before .before .before .before .before .before .before .before .pre)) (subst (λ (r : List ℕ). Left (a .at) (fields (a .values .now)) (a .out .now) r (l .p) (l .out)) next (l .inv .1)) (call .ensures) (call .kept .0))
 
 same-length : tie.Need-same-length Inv-loop μ-loop
 same-length c = c .before .loop .inv .1 .same
@@ -64,11 +52,11 @@ put-fields-spec =
     Inv-loop
     μ-loop
     loop-holds
-    mul-put-field
-    shared-slice-read-put-field
+    (λ c. omega arith)
+    (λ c. search needs)
     put-field-requires
-    add-i
-    loop-less
+    (λ c. search needs)
+    (λ c. search needs)
     loop-again
     same-length
     returns)

@@ -9,15 +9,6 @@ use Rattle.report.proofs.Report.fits.Tie as tie
 enum-told : tie.Need-enum-told
 enum-told c = search needs
 
-single-report-fits-requires : tie.Need-single-report-fits-requires
-single-report-fits-requires c κs = search needs
-
-enum-told-2 : tie.Need-enum-told-2
-enum-told-2 c = search needs
-
-multi-report-fits-requires : tie.Need-multi-report-fits-requires
-multi-report-fits-requires c κs = search needs
-
 returns : tie.Need-returns
 unfolding reportFits fitsBy
 returns c = c .single-report-fits .ensures ∙ sym (ap (λ (x : Form). fitsBy x (c .before .before .before .args .self)) (c .before .enum-told .given .1))
@@ -31,8 +22,8 @@ fits-spec =
     tie.close
     (tie.spec
     enum-told
-    single-report-fits-requires
-    enum-told-2
-    multi-report-fits-requires
+    (search needs)
+    (search needs)
+    (search needs)
     returns
     returns-2)

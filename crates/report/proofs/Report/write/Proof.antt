@@ -7,12 +7,6 @@ use borrow.Author.Needs.{needs}
 use Rattle.report.proofs.Report.write.Statement.{statement}
 use Rattle.report.proofs.Report.write.Tie as tie
 
-fits-requires : tie.Need-fits-requires
-fits-requires c κs = search needs
-
-index-fits-requires : tie.Need-index-fits-requires
-index-fits-requires c κs = search needs
-
 enum-told : tie.Need-enum-told
 enum-told c = search needs
 
@@ -23,18 +17,12 @@ write-single-requires c κs =
     let ok : canWrite (a .ci) (a .self) ≡ true = ap₂ (λ (x y : Bool). x && y) (sym (c .before .before .before .before .before .fits2 .ensures)) (sym (c .before .before .before .before .index-fits .ensures)) ∙ c .before .before .before .if1 .taken in
     single-fits (a .ci) (a .self) ok (c .before .enum-told .given .1)
 
-enum-told-2 : tie.Need-enum-told-2
-enum-told-2 c = search needs
-
 write-multi-requires : tie.Need-write-multi-requires
 unfolding canWrite
 write-multi-requires c κs =
     let a = c .before .before .before .before .before .before .before .args in
     let ok : canWrite (a .ci) (a .self) ≡ true = ap₂ (λ (x y : Bool). x && y) (sym (c .before .before .before .before .before .fits2 .ensures)) (sym (c .before .before .before .before .index-fits .ensures)) ∙ c .before .before .before .if1 .taken in
     (multi-fits (a .ci) (a .self) ok (c .before .enum-told2 .given .1), multi-index (a .ci) (a .self) ok (c .before .enum-told2 .given .1))
-
-same-length : tie.Need-same-length
-same-length c = search needs
 
 returns : tie.Need-returns
 unfolding canWrite
@@ -43,9 +31,6 @@ returns c =
     let ok : canWrite (a .ci) (a .self) ≡ true = ap₂ (λ (x y : Bool). x && y) (sym (c .before .before .before .before .before .before .before .before .fits2 .ensures)) (sym (c .before .before .before .before .before .before .before .index-fits .ensures)) ∙ c .before .before .before .before .before .before .if1 .taken in
     let w = single-written (a .ci) (a .self) ok (a .out .now) (c .before .before .before .before .enum-told .given .1) in
     (c .before .before .write-single .ensures .0 ∙ w .0, c .before .before .write-single .ensures .1 ∙ w .1)
-
-same-length-2 : tie.Need-same-length-2
-same-length-2 c = search needs
 
 returns-2 : tie.Need-returns-2
 unfolding canWrite
@@ -66,14 +51,14 @@ pub write-spec : {M : Type 1} → statement M
 write-spec =
     tie.close
     (tie.spec
-    fits-requires
-    index-fits-requires
+    (search needs)
+    (search needs)
     enum-told
     write-single-requires
-    enum-told-2
+    (search needs)
     write-multi-requires
-    same-length
+    (search needs)
     returns
-    same-length-2
+    (search needs)
     returns-2
     returns-3)

@@ -9,12 +9,6 @@ use Rattle.report.proofs.fits.index_fits.Tie as tie
 enum-told : tie.Need-enum-told
 enum-told c = search needs
 
-enum-told-2 : tie.Need-enum-told-2
-enum-told-2 c = search needs
-
-is-index-requires : tie.Need-is-index-requires
-is-index-requires c κs = search needs
-
 returns : tie.Need-returns
 unfolding indexFits
 returns c = sym (ap (λ (x : Form). indexFits x (c .before .before .args .ci)) (c .enum-told .given .1))
@@ -24,4 +18,4 @@ unfolding indexFits
 returns-2 c = c .is-index .ensures ∙ sym (ap (λ (x : Form). indexFits x (c .before .before .before .args .ci)) (c .before .enum-told2 .given .1))
 
 pub index-fits-spec : {M : Type 1} → statement M
-index-fits-spec = tie.close (tie.spec enum-told enum-told-2 is-index-requires returns returns-2)
+index-fits-spec = tie.close (tie.spec enum-told (search needs) (search needs) returns returns-2)

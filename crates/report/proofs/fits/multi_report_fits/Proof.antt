@@ -13,15 +13,6 @@ use borrow.Author.Needs.{needs}
 use Rattle.report.proofs.fits.multi_report_fits.Statement.{statement}
 use Rattle.report.proofs.fits.multi_report_fits.Tie as tie
 
-items-fit-requires : tie.Need-items-fit-requires
-items-fit-requires c κs = search needs
-
-head-fits-requires : tie.Need-head-fits-requires
-head-fits-requires c κs = search needs
-
-cast-result : tie.Need-cast-result
-cast-result c = search needs
-
 duration-requires : tie.Need-duration-requires
 duration-requires c κs = fit-count _ (sym (c .before .before .before .items-fit .ensures) ∙ c .before .before .if1 .taken)
 
@@ -46,9 +37,9 @@ pub multi-report-fits-spec : {M : Type 1} → statement M
 multi-report-fits-spec =
     tie.close
     (tie.spec
-    items-fit-requires
-    head-fits-requires
-    cast-result
+    (search needs)
+    (search needs)
+    (search needs)
     duration-requires
     diversion-requires
     returns

@@ -4,15 +4,9 @@ use borrow.Author.Needs.{needs}
 use Rattle.report.proofs.fits.single_report_fits.Statement.{statement}
 use Rattle.report.proofs.fits.single_report_fits.Tie as tie
 
-single-fits-requires : tie.Need-single-fits-requires
-single-fits-requires c κs = search needs
-
-well-placed-requires : tie.Need-well-placed-requires
-well-placed-requires c κs = search needs
-
 returns : tie.Need-returns
 unfolding singleFits
 returns c = rw (c .before .before .single-fits .ensures, c .before .well-placed .ensures)
 
 pub single-report-fits-spec : {M : Type 1} → statement M
-single-report-fits-spec = tie.close (tie.spec single-fits-requires well-placed-requires returns)
+single-report-fits-spec = tie.close (tie.spec (search needs) (search needs) returns)

@@ -1,17 +1,10 @@
 -- The duration and the diversion are those of the items.
-use mathlib.Core.Path.{sym, ap}
 use native.Mathlib.Omega.{arith}
 use Rattle.content.specs.Stored.{listed}
 use Rattle.report.proofs.Messages.{duration-lt}
 use borrow.Author.Needs.{needs}
 use Rattle.report.proofs.read.of_items.Statement.{statement}
 use Rattle.report.proofs.read.of_items.Tie as tie
-
-diversion-requires : tie.Need-diversion-requires
-diversion-requires c κs = search needs
-
-duration-requires : tie.Need-duration-requires
-duration-requires c κs = search needs
 
 cast-t6 : tie.Need-cast-t6
 cast-t6 c = omega (arith, c .duration .ensures, duration-lt (listed (c .before .before .args .items)) (c .before .before .pre .1))
@@ -20,4 +13,4 @@ returns : tie.Need-returns
 returns c = rw (c .duration .ensures, c .before .diversion .ensures, c .before .before .pre .2)
 
 pub of-items-spec : {M : Type 1} → statement M
-of-items-spec = tie.close (tie.spec diversion-requires duration-requires cast-t6 returns)
+of-items-spec = tie.close (tie.spec (search needs) (search needs) cast-t6 returns)

@@ -1,6 +1,6 @@
 -- The two halves are stored one after the other.
-use Prim.Native.Nat.{ℕ, _+_, _-_, _*_, _/_, _^_, _≤_}
-use mathlib.Core.Path.{_≡_, sym, ap, ap₂, _∙_}
+use Prim.Native.Nat.{ℕ, _+_, _-_, _*_, _/_, _^_}
+use mathlib.Core.Path.{_≡_, ap, ap₂, _∙_}
 use mathlib.Core.List.{List, _++_}
 use native.Mathlib.Omega.{arith}
 use lib.ListN.{length, take, drop, length-append, length-drop}
@@ -13,33 +13,6 @@ use Rattle.report.proofs.Kept.{two-stores}
 use borrow.Author.Needs.{needs}
 use Rattle.report.proofs.record.put_content.Statement.{statement}
 use Rattle.report.proofs.record.put_content.Tie as tie
-
-sub-store : tie.Need-sub-store
-sub-store c = search needs
-
-part-store-start : tie.Need-part-store-start
-part-store-start c = search needs
-
-part-store-end : tie.Need-part-store-end
-part-store-end c = search needs
-
-store-requires : tie.Need-store-requires
-store-requires c κs = search needs
-
-sub-store-2 : tie.Need-sub-store-2
-sub-store-2 c = search needs
-
-part-store-start-2 : tie.Need-part-store-start-2
-part-store-start-2 c = search needs
-
-part-store-end-2 : tie.Need-part-store-end-2
-part-store-end-2 c = search needs
-
-store-requires-2 : tie.Need-store-requires-2
-store-requires-2 c κs = search needs
-
-same-length : tie.Need-same-length
-same-length c = search needs
 
 returns : tie.Need-returns
 returns c =
@@ -61,13 +34,13 @@ pub put-content-spec : {M : Type 1} → statement M
 put-content-spec =
     tie.close
     (tie.spec
-    sub-store
-    part-store-start
-    part-store-end
-    store-requires
-    sub-store-2
-    part-store-start-2
-    part-store-end-2
-    store-requires-2
-    same-length
+    (search needs)
+    (search needs)
+    (search needs)
+    (search needs)
+    (search needs)
+    (search needs)
+    (search needs)
+    (search needs)
+    (search needs)
     returns)

@@ -1,20 +1,21 @@
 -- The cells before i hold the first later groups, and the rest of the bits is what follows them.
-use Prim.Native.Nat.{ℕ, _-_, _*_, _^_, _<_}
-use mathlib.Core.Path.{_≡_, refl, sym, ap, subst, _∙_}
-use mathlib.Core.List.{List, _++_}
+use Prim.Native.Nat.{ℕ, _-_, _^_, _<_}
+use mathlib.Core.Path.{_≡_, sym, ap, subst, _∙_}
+use mathlib.Core.List.{_++_}
 use mathlib.Core.Bool.{false}
 use native.Mathlib.Numerals.{add-one}
 use native.Mathlib.Omega.{arith}
-use lib.ListN.{length, take, drop, length-append, length-replicate, length-drop}
+use lib.ListN.{length, drop, length-append, length-replicate, length-drop}
 use borrow.Author.Needs.{needs}
 use Rattle.bits.specs.Bits.{val}
 use Rattle.bits.specs.Fields.{pack}
+use Rattle.bits.proofs.Value.{val-take-lt}
 use Rattle.word.specs.Format.{laterFormat}
 use Rattle.word.specs.Compose.{laterValues}
-use Rattle.content.specs.Held.{bitsOf}
+use Rattle.content.specs.Halves.{bitsOf}
 use Rattle.content.specs.Packing.{zeros, groupBits}
 use Rattle.content.proofs.Halves.{length-bitsOf, bitsOf-contentOf}
-use Rattle.report.proofs.Groups.{Made, made-none, made-more, made-all, same-cells, group-lt, later-fits}
+use Rattle.report.proofs.Groups.{Made, made-none, made-more, made-all, same-cells, later-fits}
 use Rattle.report.proofs.write.put_later.Statement.{statement}
 use Rattle.report.proofs.write.put_later.Tie as tie
 
@@ -27,45 +28,21 @@ abbrev μ-loop : tie.MeasureT-loop
 loop-holds : tie.Need-loop-holds Inv-loop μ-loop
 loop-holds c = made-none _ _ _
 
-first-bits-requires : tie.Need-first-bits-requires Inv-loop μ-loop
-first-bits-requires c κs = search needs
-
-sub-later-number : tie.Need-sub-later-number Inv-loop μ-loop
-sub-later-number c = omega arith
-
-sub-later-number-2 : tie.Need-sub-later-number-2 Inv-loop μ-loop
-sub-later-number-2 c = omega arith
-
-cast-later-number : tie.Need-cast-later-number Inv-loop μ-loop
-cast-later-number c = omega arith
-
 cast-later-number-2 : tie.Need-cast-later-number-2 Inv-loop μ-loop
-cast-later-number-2 c = omega (arith, c .first-bits .ensures, group-lt (bitsOf (c .before .before .loop .rest)) (length-bitsOf (c .before .before .loop .rest)))
+cast-later-number-2 c = omega (arith, c .first-bits .ensures, val-take-lt groupBits (bitsOf (c .before .before .loop .rest)))
 
 later-number-requires : tie.Need-later-number-requires Inv-loop μ-loop
 later-number-requires c κs =
     let a = c .before .before .before .before .args in
     let l = c .before .before .loop in
-    let small = subst (λ (n : ℕ). n < 2 ^ groupBits) (sym (c .first-bits .ensures)) (group-lt (bitsOf (l .rest)) (length-bitsOf (l .rest))) in
+    let small = subst (λ (n : ℕ). n < 2 ^ groupBits) (sym (c .first-bits .ensures)) (val-take-lt groupBits (bitsOf (l .rest))) in
     later-fits (a .ci) (l .second) (length (a .out .now) - 1 - l .i) (c .first-bits .result) (c .before .before .before .before .pre .0) (l .inv .marked) (omega arith) small
-
-mul-out : tie.Need-mul-out Inv-loop μ-loop
-mul-out c = omega arith
 
 slice-write-out : tie.Need-slice-write-out Inv-loop μ-loop
 slice-write-out c =
     let b = c .before .before .before .before .before in
     let l = c .before .before .before .loop in
     omega (arith, same-cells (b .args .ci) (b .args .out .now) (bitsOf (b .args .content)) (l .out) (bitsOf (l .rest)) (l .second) (l .i) (l .inv) (b .pre .1) (length-bitsOf (b .args .content)))
-
-shifted-left-requires : tie.Need-shifted-left-requires Inv-loop μ-loop
-shifted-left-requires c κs = search needs
-
-add-i : tie.Need-add-i Inv-loop μ-loop
-add-i c = omega arith
-
-loop-less : tie.Need-loop-less Inv-loop μ-loop
-loop-less c = omega arith
 
 loop-again : tie.Need-loop-again Inv-loop μ-loop
 loop-again c =
@@ -101,17 +78,17 @@ put-later-spec =
     Inv-loop
     μ-loop
     loop-holds
-    first-bits-requires
-    sub-later-number
-    sub-later-number-2
-    cast-later-number
+    (search needs)
+    (λ c. omega arith)
+    (λ c. omega arith)
+    (λ c. omega arith)
     cast-later-number-2
     later-number-requires
-    mul-out
+    (λ c. omega arith)
     slice-write-out
-    shifted-left-requires
-    add-i
-    loop-less
+    (search needs)
+    (λ c. omega arith)
+    (λ c. omega arith)
     loop-again
     same-length
     returns)

@@ -15,12 +15,6 @@ single-number-requires : tie.Need-single-number-requires
 unfolding singleFits
 single-number-requires c κs = and-left _ _ (c .before .before .pre)
 
-slice-write-out : tie.Need-slice-write-out
-slice-write-out c = search needs
-
-same-length : tie.Need-same-length
-same-length c = search needs
-
 returns : tie.Need-returns
 unfolding singleWords
 returns c =
@@ -35,4 +29,4 @@ returns-2 c = no-room (singleWords (c .before .before .args .r)) (c .before .bef
 
 pub write-single-spec : {M : Type 1} → statement M
 write-single-spec =
-    tie.close (tie.spec single-number-requires slice-write-out same-length returns returns-2)
+    tie.close (tie.spec single-number-requires (search needs) (search needs) returns returns-2)

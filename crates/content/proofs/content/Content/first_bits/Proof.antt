@@ -6,13 +6,10 @@ use Rattle.content.proofs.Halves.{val-first}
 use Rattle.content.proofs.content.Content.first_bits.Statement.{statement}
 use Rattle.content.proofs.content.Content.first_bits.Tie as tie
 
-top-requires : tie.Need-top-requires
-top-requires c κs = search needs
-
 returns : tie.Need-returns
 returns c =
     let a = c .before .args in
     c .top .ensures ∙ sym (val-first (a .self) (omega arith) (omega arith) (a .w) (omega arith))
 
 pub first-bits-spec : {M : Type 1} → statement M
-first-bits-spec = tie.close (tie.spec top-requires returns)
+first-bits-spec = tie.close (tie.spec (search needs) returns)

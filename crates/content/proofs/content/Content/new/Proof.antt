@@ -2,7 +2,7 @@
 use mathlib.Core.Path.{sym, ap, ap₂, _∙_}
 use mathlib.Core.List.{_++_}
 use lib.Dec.{lit<}
-use Rattle.content.specs.Held.{contentOf, startingWith}
+use Rattle.content.specs.Halves.{contentOf, startingWith}
 use Rattle.content.proofs.Zeros.{bits-zero}
 use Rattle.content.proofs.Halves.{contentOf-halves}
 use Rattle.content.proofs.content.Content.new.Statement.{statement}

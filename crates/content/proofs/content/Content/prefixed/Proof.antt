@@ -8,12 +8,6 @@ use Rattle.content.proofs.Halves.{raised-lt, prefixed}
 use Rattle.content.proofs.content.Content.prefixed.Statement.{statement}
 use Rattle.content.proofs.content.Content.prefixed.Tie as tie
 
-raised-requires : tie.Need-raised-requires
-raised-requires c κs = search needs
-
-shr-t6 : tie.Need-shr-t6
-shr-t6 c = search needs
-
 add-t7 : tie.Need-add-t7
 add-t7 c =
     let a = c .before .before .args in
@@ -21,12 +15,6 @@ add-t7 c =
     record {
       fits = subst (λ (x : ℕ). x + s .high / 2 ^ a .w < 2 ^ 64) (sym (c .before .raised .ensures)) (raised-lt s (omega arith) (omega arith) (a .w) (omega arith) (a .v) (s .high) (omega arith));
     }
-
-raised-requires-2 : tie.Need-raised-requires-2
-raised-requires-2 c κs = search needs
-
-shr-t10 : tie.Need-shr-t10
-shr-t10 c = search needs
 
 add-t11 : tie.Need-add-t11
 add-t11 c =
@@ -45,4 +33,4 @@ returns c =
 
 pub prefixed-spec : {M : Type 1} → statement M
 prefixed-spec =
-    tie.close (tie.spec raised-requires shr-t6 add-t7 raised-requires-2 shr-t10 add-t11 returns)
+    tie.close (tie.spec (search needs) (search needs) add-t7 (search needs) (search needs) add-t11 returns)

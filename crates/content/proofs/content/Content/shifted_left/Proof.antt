@@ -8,12 +8,6 @@ use Rattle.content.proofs.Halves.{shifted-lt, shifted}
 use Rattle.content.proofs.content.Content.shifted_left.Statement.{statement}
 use Rattle.content.proofs.content.Content.shifted_left.Tie as tie
 
-shl-t4 : tie.Need-shl-t4
-shl-t4 c = search needs
-
-top-requires : tie.Need-top-requires
-top-requires c κs = search needs
-
 add-t6 : tie.Need-add-t6
 add-t6 c =
     let a = c .before .before .args in
@@ -21,9 +15,6 @@ add-t6 c =
     record {
       fits = subst (λ (x : ℕ). s .high * 2 ^ a .w % 2 ^ 64 + x < 2 ^ 64) (sym (c .top .ensures)) (shifted-lt s (omega arith) (omega arith) (a .w) (omega arith));
     }
-
-shl-t8 : tie.Need-shl-t8
-shl-t8 c = search needs
 
 returns : tie.Need-returns
 returns c =
@@ -33,4 +24,4 @@ returns c =
     ∙ shifted s (omega arith) (omega arith) (a .w) (omega arith)
 
 pub shifted-left-spec : {M : Type 1} → statement M
-shifted-left-spec = tie.close (tie.spec shl-t4 top-requires add-t6 shl-t8 returns)
+shifted-left-spec = tie.close (tie.spec (search needs) (search needs) add-t6 (search needs) returns)

@@ -9,12 +9,6 @@ use Rattle.content.proofs.Halves.{zero-first, zero-beyond}
 use Rattle.content.proofs.content.Content.starts_zero.Statement.{statement}
 use Rattle.content.proofs.content.Content.starts_zero.Tie as tie
 
-top-requires : tie.Need-top-requires
-top-requires c κs = search needs
-
-top-requires-2 : tie.Need-top-requires-2
-top-requires-2 c κs = search needs
-
 returns : tie.Need-returns
 returns c =
     let a = c .before .before .args in
@@ -27,4 +21,4 @@ returns-2 c =
     ∙ sym (zero-beyond (a .self) (omega arith) (omega arith) (a .n) (omega arith) (omega arith))
 
 pub starts-zero-spec : {M : Type 1} → statement M
-starts-zero-spec = tie.close (tie.spec top-requires top-requires-2 returns returns-2)
+starts-zero-spec = tie.close (tie.spec (search needs) (search needs) returns returns-2)

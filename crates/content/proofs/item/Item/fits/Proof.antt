@@ -10,15 +10,6 @@ use Rattle.content.specs.Packing.{itemFits}
 use Rattle.content.proofs.item.Item.fits.Statement.{statement}
 use Rattle.content.proofs.item.Item.fits.Tie as tie
 
-cast-result : tie.Need-cast-result
-cast-result c = search needs
-
-width-of-requires : tie.Need-width-of-requires
-width-of-requires c κs = search needs
-
-pow2-requires : tie.Need-pow2-requires
-pow2-requires c κs = search needs
-
 returns : tie.Need-returns
 unfolding itemFits
 returns c =
@@ -33,4 +24,4 @@ returns-2 c =
     sym (ap (λ (b : Bool). b && ltb (i .value) (2 ^ width (i .label))) (le-ltb (i .label) sublabelled (c .if1 .left)))
 
 pub fits-spec : {M : Type 1} → statement M
-fits-spec = tie.close (tie.spec cast-result width-of-requires pow2-requires returns returns-2)
+fits-spec = tie.close (tie.spec (search needs) (search needs) (search needs) returns returns-2)

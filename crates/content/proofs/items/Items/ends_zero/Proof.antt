@@ -14,18 +14,6 @@ returns : tie.Need-returns
 unfolding listed lastZero
 returns c = let s = c .before .args .t1 in sym (ap (λ (n : ℕ). lastZero (take n (s .places))) (c .if1 .taken))
 
-sub-last : tie.Need-sub-last
-sub-last c = search needs
-
-mul-last : tie.Need-mul-last
-mul-last c = search needs
-
-element-copy-out-last : tie.Need-element-copy-out-last
-element-copy-out-last c = search needs
-
-is-zero-requires : tie.Need-is-zero-requires
-is-zero-requires c κs = search needs
-
 returns-2 : tie.Need-returns-2
 returns-2 c =
     let s = c .before .before .before .args .t1 in
@@ -36,4 +24,4 @@ returns-2 c =
 
 pub ends-zero-spec : {M : Type 1} → statement M
 ends-zero-spec =
-    tie.close (tie.spec returns sub-last mul-last element-copy-out-last is-zero-requires returns-2)
+    tie.close (tie.spec returns (search needs) (search needs) (search needs) (search needs) returns-2)

@@ -7,11 +7,8 @@ use Rattle.content.specs.declared.items.Items.{Items}
 use Rattle.content.proofs.items.Items.from_cells.Statement.{statement}
 use Rattle.content.proofs.items.Items.from_cells.Tie as tie
 
-places-in-requires : tie.Need-places-in-requires
-places-in-requires c κs = search needs
-
 returns : tie.Need-returns
 returns c = ap (λ (p : List Item). let s : Items = record { count = c .before .args .count; places = p } in s) (c .places-in .ensures)
 
 pub from-cells-spec : {M : Type 1} → statement M
-from-cells-spec = tie.close (tie.spec places-in-requires returns)
+from-cells-spec = tie.close (tie.spec (search needs) returns)

@@ -27,12 +27,6 @@ returns c =
 loop-holds : tie.Need-loop-holds Inv-loop μ-loop
 loop-holds c = (omega arith, omega arith, refl)
 
-mul-item : tie.Need-mul-item Inv-loop μ-loop
-mul-item c = omega arith
-
-element-copy-out-item : tie.Need-element-copy-out-item Inv-loop μ-loop
-element-copy-out-item c = omega arith
-
 is-zero-requires : tie.Need-is-zero-requires Inv-loop μ-loop
 is-zero-requires c κs = tt
 
@@ -44,12 +38,6 @@ returns-2 c =
     let n : length (s .places) ≡ limit = sym (length-map (s .places) _) ∙ c .before .before .before .before .before .before .good .0 .1 .1 .0 .1 .0 .1 in
     sym (ap₂ _&&_ (le-leb (s .count) limit (l .inv .1)) (l .inv .2 ∙ allZeroItems-at (s .places) (l .i) (omega arith))
     ∙ ap (λ (b : Bool). b && allZeroItems (drop (suc (l .i)) (s .places))) (sym (c .before .is-zero .ensures) ∙ not-true (c .before .is-zero .result) (c .if2 .taken)))
-
-add-i : tie.Need-add-i Inv-loop μ-loop
-add-i c = omega arith
-
-loop-less : tie.Need-loop-less Inv-loop μ-loop
-loop-less c = omega arith
 
 loop-again : tie.Need-loop-again Inv-loop μ-loop
 loop-again c =
@@ -81,11 +69,11 @@ well-placed-spec =
     μ-loop
     returns
     loop-holds
-    mul-item
-    element-copy-out-item
+    (λ c. omega arith)
+    (λ c. omega arith)
     is-zero-requires
     returns-2
-    add-i
-    loop-less
+    (λ c. omega arith)
+    (λ c. omega arith)
     loop-again
     returns-3)

@@ -9,12 +9,9 @@ use Rattle.content.specs.declared.pack.PackAnswer.the-variants as packAn
 use Rattle.content.proofs.pack.Packed.new.Statement.{statement}
 use Rattle.content.proofs.pack.Packed.new.Tie as tie
 
-new-requires : tie.Need-new-requires
-new-requires c κs = search needs
-
 returns : tie.Need-returns
 unfolding packed packing
 returns c = ap (λ (b : Content). let p : Packed = record { answer = packAnswer.Packed 0; content = b } in p) (c .new .ensures)
 
 pub new-spec : {M : Type 1} → statement M
-new-spec = tie.close (tie.spec new-requires returns)
+new-spec = tie.close (tie.spec (search needs) returns)

@@ -10,16 +10,13 @@ use borrow.Author.Tests.{not-true, not-false}
 use Rattle.bits.specs.Bits.{bits}
 use Rattle.content.specs.Widths.{labelWidth, width}
 use Rattle.content.specs.Packing.{itemFits}
-use Rattle.content.specs.Held.{bitsOf, contentOf}
+use Rattle.content.specs.Halves.{bitsOf, contentOf}
 use Rattle.content.specs.declared.pack.Packed.{Packed}
 use Rattle.content.specs.declared.pack.PackAnswer.the-variants as packAnswer
 use Rattle.content.proofs.OneItem.{label-lt}
 use Rattle.content.proofs.Prepending.{prepend-refused, prepend-unfit, prepend-long, prepend-content}
 use Rattle.content.proofs.pack.Packed.prepended.Statement.{statement}
 use Rattle.content.proofs.pack.Packed.prepended.Tie as tie
-
-enum-known-answer : tie.Need-enum-known-answer
-enum-known-answer c = search needs
 
 enum-told : tie.Need-enum-told
 enum-told c = search needs
@@ -28,12 +25,6 @@ returns : tie.Need-returns
 returns c =
     let a = c .before .before .args in
     λ its e. prepend-refused (a .self) (a .item) its _ (c .enum-told .given .1) e
-
-fits-requires : tie.Need-fits-requires
-fits-requires c κs = search needs
-
-refused-requires : tie.Need-refused-requires
-refused-requires c κs = search needs
 
 returns-2 : tie.Need-returns-2
 returns-2 c =
@@ -46,36 +37,12 @@ width-of-requires c κs =
     let a = c .before .before .before .before .before .args in
     label-lt (a .item) (sym (c .before .fits2 .ensures) ∙ not-false _ (c .if1 .left))
 
-add-size : tie.Need-add-size
-add-size c = search needs
-
-sub-if2 : tie.Need-sub-if2
-sub-if2 c = search needs
-
-refused-requires-2 : tie.Need-refused-requires-2
-refused-requires-2 c κs = search needs
-
 returns-3 : tie.Need-returns-3
 returns-3 c =
     let d = c .before .before .before .before .before .before in
     let a = d .before .before .args in
     let w = c .before .before .width-of .ensures .0 in
     λ its e. c .refused2 .ensures ∙ prepend-long (a .self) its e _ (d .answer .given .1) (a .item) (omega arith)
-
-cast-prefixed : tie.Need-cast-prefixed
-cast-prefixed c = search needs
-
-prefixed-requires : tie.Need-prefixed-requires
-prefixed-requires c κs = search needs
-
-add-t11 : tie.Need-add-t11
-add-t11 c = search needs
-
-cast-prefixed-2 : tie.Need-cast-prefixed-2
-cast-prefixed-2 c = search needs
-
-prefixed-requires-2 : tie.Need-prefixed-requires-2
-prefixed-requires-2 c κs = search needs
 
 returns-4 : tie.Need-returns-4
 returns-4 c =
@@ -93,20 +60,20 @@ pub prepended-spec : {M : Type 1} → statement M
 prepended-spec =
     tie.close
     (tie.spec
-    enum-known-answer
+    (search needs)
     enum-told
     returns
-    fits-requires
-    refused-requires
+    (search needs)
+    (search needs)
     returns-2
     width-of-requires
-    add-size
-    sub-if2
-    refused-requires-2
+    (search needs)
+    (search needs)
+    (search needs)
     returns-3
-    cast-prefixed
-    prefixed-requires
-    add-t11
-    cast-prefixed-2
-    prefixed-requires-2
+    (search needs)
+    (search needs)
+    (search needs)
+    (search needs)
+    (search needs)
     returns-4)

@@ -8,12 +8,9 @@ use Rattle.content.specs.declared.pack.PackAnswer.the-variants as packAn
 use Rattle.content.proofs.pack.Packed.refused.Statement.{statement}
 use Rattle.content.proofs.pack.Packed.refused.Tie as tie
 
-new-requires : tie.Need-new-requires
-new-requires c κs = search needs
-
 returns : tie.Need-returns
 unfolding unpacked
 returns c = ap (λ (b : Content). let p : Packed = record { answer = packAnswer.Refused 9; content = b } in p) (c .new .ensures)
 
 pub refused-spec : {M : Type 1} → statement M
-refused-spec = tie.close (tie.spec new-requires returns)
+refused-spec = tie.close (tie.spec (search needs) returns)

@@ -8,12 +8,9 @@ use Rattle.content.specs.declared.read.ReadAnswer.the-variants as readAn
 use Rattle.content.proofs.read.Reading.refused.Statement.{statement}
 use Rattle.content.proofs.read.Reading.refused.Tie as tie
 
-new-requires : tie.Need-new-requires
-new-requires c κs = search needs
-
 returns : tie.Need-returns
 unfolding readingOf
 returns c = ap (λ (s : Items). let r : Reading = record { answer = readAnswer.Refused (c .before .args .n); items = s } in r) (c .new .ensures)
 
 pub refused-spec : {M : Type 1} → statement M
-refused-spec = tie.close (tie.spec new-requires returns)
+refused-spec = tie.close (tie.spec (search needs) returns)

@@ -7,13 +7,10 @@ use Rattle.content.proofs.Remaining.{take-remaining}
 use Rattle.content.proofs.rest.Rest.head.Statement.{statement}
 use Rattle.content.proofs.rest.Rest.head.Tie as tie
 
-first-bits-requires : tie.Need-first-bits-requires
-first-bits-requires c κs = search needs
-
 returns : tie.Need-returns
 returns c =
     let a = c .before .before .args in
     c .first-bits .ensures ∙ ap val (sym (take-remaining (a .self) (a .w) (omega arith)))
 
 pub head-spec : {M : Type 1} → statement M
-head-spec = tie.close (tie.spec first-bits-requires returns)
+head-spec = tie.close (tie.spec (search needs) returns)

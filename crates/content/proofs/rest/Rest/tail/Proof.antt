@@ -3,17 +3,11 @@ use Prim.Native.Nat.{_-_}
 use native.Mathlib.Omega.{arith}
 use mathlib.Core.Path.{refl, ap, _∙_}
 use borrow.Author.Needs.{needs}
-use Rattle.content.specs.Held.{remaining}
+use Rattle.content.specs.Halves.{remaining}
 use Rattle.content.specs.declared.content.Content.{Content}
 use Rattle.content.proofs.Remaining.{drop-remaining}
 use Rattle.content.proofs.rest.Rest.tail.Statement.{statement}
 use Rattle.content.proofs.rest.Rest.tail.Tie as tie
-
-shifted-left-requires : tie.Need-shifted-left-requires
-shifted-left-requires c κs = search needs
-
-sub-t5 : tie.Need-sub-t5
-sub-t5 c = search needs
 
 returns : tie.Need-returns
 returns c =
@@ -24,4 +18,4 @@ returns c =
     )
 
 pub tail-spec : {M : Type 1} → statement M
-tail-spec = tie.close (tie.spec shifted-left-requires sub-t5 returns)
+tail-spec = tie.close (tie.spec (search needs) (search needs) returns)

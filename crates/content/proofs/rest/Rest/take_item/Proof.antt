@@ -8,12 +8,13 @@ use mathlib.Core.List.{List}
 use lib.ListN.{length, take, drop, length-drop}
 use lib.Pow.{pow-mono}
 use Rattle.bits.specs.Bits.{val}
+use Rattle.bits.proofs.Value.{val-take-lt}
 use Rattle.content.specs.Widths.{labelWidth, width}
 use Rattle.content.specs.Items.{First, item}
-use Rattle.content.specs.Held.{remaining}
+use Rattle.content.specs.Halves.{remaining}
 use Rattle.content.specs.Answers.{firstOf, leftOf}
 use Rattle.content.proofs.OneItem.{first-short, first-sublabelled, first-cut, first-whole}
-use Rattle.content.proofs.Remaining.{length-remaining, val-lt-width}
+use Rattle.content.proofs.Remaining.{length-remaining}
 use Rattle.content.proofs.rest.Rest.take_item.Statement.{statement}
 use Rattle.content.proofs.rest.Rest.take_item.Tie as tie
 
@@ -24,14 +25,11 @@ returns c =
     let n = length-remaining s (c .before .before .pre) in
     (sym (first-short (remaining s) (omega arith)), omega arith)
 
-head-requires : tie.Need-head-requires
-head-requires c κs = search needs
-
 cast-label : tie.Need-cast-label
 cast-label c =
     let s = c .before .before .before .args .self in
     let n = length-remaining s (c .before .before .before .pre) in
-    omega (arith, c .head .ensures, val-lt-width (remaining s) labelWidth (omega arith))
+    omega (arith, c .head .ensures, val-take-lt labelWidth (remaining s))
 
 returns-2 : tie.Need-returns-2
 unfolding firstOf leftOf
@@ -40,14 +38,11 @@ returns-2 c =
     let n = length-remaining s (c .before .before .before .before .pre) in
     (sym (first-sublabelled (remaining s) (omega arith) (c .before .head .result) (c .before .head .ensures) (c .if2 .taken)), omega arith)
 
-tail-requires : tie.Need-tail-requires
-tail-requires c κs = search needs
-
 width-of-requires : tie.Need-width-of-requires
 width-of-requires c κs =
     let s = c .before .before .before .before .before .args .self in
     let n = length-remaining s (c .before .before .before .before .before .pre) in
-    omega (arith, c .before .before .head .ensures, val-lt-width (remaining s) labelWidth (omega arith))
+    omega (arith, c .before .before .head .ensures, val-take-lt labelWidth (remaining s))
 
 returns-3 : tie.Need-returns-3
 unfolding firstOf leftOf
@@ -60,19 +55,13 @@ returns-3 c =
     let short : length (drop labelWidth (remaining s)) < width (d .head .result) = omega (arith, length-drop labelWidth (remaining s)) in
     (sym (first-cut (remaining s) (omega arith) (d .head .result) (d .head .ensures) (c .before .before .before .before .if2 .left) short), omega arith)
 
-head-requires-2 : tie.Need-head-requires-2
-head-requires-2 c κs = search needs
-
 cast-t7 : tie.Need-cast-t7
 cast-t7 c =
     let v = c .before .before .before .before .tail .result in
     let w = c .before .before .before .width-of .result in
     let n : length (remaining v) ≡ v .left = length-remaining v (omega arith) in
     let m : 2 ^ w ≤ 2 ^ 16 = pow-mono {j = 16} (let h = c .before .before .before .width-of .ensures .1 in h) in
-    omega (arith, c .head2 .ensures, val-lt-width (remaining v) w (omega arith))
-
-tail-requires-2 : tie.Need-tail-requires-2
-tail-requires-2 c κs = search needs
+    omega (arith, c .head2 .ensures, val-take-lt w (remaining v))
 
 returns-4 : tie.Need-returns-4
 unfolding firstOf leftOf
@@ -95,13 +84,13 @@ take-item-spec =
     tie.close
     (tie.spec
     returns
-    head-requires
+    (search needs)
     cast-label
     returns-2
-    tail-requires
+    (search needs)
     width-of-requires
     returns-3
-    head-requires-2
+    (search needs)
     cast-t7
-    tail-requires-2
+    (search needs)
     returns-4)

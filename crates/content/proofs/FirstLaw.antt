@@ -8,14 +8,10 @@ use lib.ListN.{length, take, drop, length-drop}
 use lib.Dec.{eqb, ltb}
 use borrow.Author.Tests.{ltb-false, eqb-false}
 use Rattle.bits.specs.Bits.{val}
+use Rattle.bits.proofs.Choice.{either}
 use Rattle.content.specs.Widths.{labelWidth, width, sublabelled}
 use Rattle.content.specs.Items.{item, unfit, valued, labelled, first}
 use Rattle.content.specs.declared.item.Item.{Item}
-
--- a test is true or false
-pub either : {P : Type 0} (b : Bool) → (b ≡ true → P) → (b ≡ false → P) → P
-either true t f = t refl
-either false t f = f refl
 
 unfit-is-no-item : {n : ℕ} {i : Item} {rest : List Bool} → unfit n ≡ item i rest → ⊥
 unfit-is-no-item {n} {i} {rest} e = let z : _≡_ {A = ℕ} 0 1 = cc in omega arith

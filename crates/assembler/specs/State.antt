@@ -1,4 +1,4 @@
--- How the code holds what the assembler's definitions call its state (specs/State.antt of `transmission`).
+-- How the code keeps what the assembler's definitions call its state (specs/State.antt of `transmission`).
 use Prim.Native.Nat.{ℕ}
 use mathlib.Core.List.{List, [], _∷_}
 use lib.ListN.{length, take, getD}
@@ -12,12 +12,12 @@ use Rattle.assembler.specs.declared.Assembler.the-variants.{Empty, Start
 unfoldable pub contentsOf : Partial → List ℕ
 contentsOf p = take (p .count) (p .first ∷ p .second ∷ p .third ∷ [])
 
--- the state that is held
+-- the state that it keeps
 unfoldable pub stateOf : Assembler → State
 stateOf Empty = empty
 stateOf (Started p) = started (p .ci) (p .head) (p .gsi) (contentsOf p)
 
--- an open message as it is held: unused contents are zero
+-- an open message as it is kept: unused contents are zero
 unfoldable pub partialOf : ℕ → Head → ℕ → List ℕ → Partial
 partialOf ci head gsi contents = record {
   ci = ci;
@@ -29,7 +29,7 @@ partialOf ci head gsi contents = record {
   third = getD contents 2 0;
 }
 
--- a state as it is held
-unfoldable pub held : State → Assembler
-held empty = Empty
-held (started ci head gsi contents) = Started (partialOf ci head gsi contents)
+-- a state as it is kept
+unfoldable pub assemblerOf : State → Assembler
+assemblerOf empty = Empty
+assemblerOf (started ci head gsi contents) = Started (partialOf ci head gsi contents)

@@ -7,9 +7,11 @@ use mathlib.Core.Bool.{Bool, true, false}
 use mathlib.Core.List.{List, []}
 use lib.ListN.{length}
 use Rattle.bits.specs.Bits.{allZero}
-use Rattle.content.specs.Items.{First, item, unfit, first, Reading, holds, refused, prepend, andThen, readBy, itemsWithin, items}
-use Rattle.content.specs.FirstLaw.{either, first-shorter}
+use Rattle.bits.specs.Outcome.{gives, refused}
+use Rattle.bits.proofs.Choice.{either}
+use Rattle.content.specs.Items.{First, item, unfit, first, Reading, prepend, andThen, readBy, itemsWithin, items}
 use Rattle.content.specs.declared.item.Item.{Item}
+use Rattle.content.proofs.FirstLaw.{first-shorter}
 
 andThen-same : (x : First) (f g : List Bool → Reading) → ((i : Item) (rest : List Bool) → x ≡ item i rest → f rest ≡ g rest) → andThen x f ≡ andThen x g
 unfolding andThen
@@ -36,7 +38,7 @@ unfolding items itemsWithin
 items-law l = readBy-same l (itemsWithin (length l)) items (λ rest s. within-enough (length l) (suc (length rest)) rest (omega arith) (omega arith))
 
 -- its three cases
-pub items-zero : (l : List Bool) → allZero l ≡ true → items l ≡ holds []
+pub items-zero : (l : List Bool) → allZero l ≡ true → items l ≡ gives []
 unfolding readBy
 items-zero l z = items-law l ∙ rw (z, readBy)
 
