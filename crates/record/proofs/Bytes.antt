@@ -10,11 +10,11 @@ use Rattle.bits.specs.Bits.{bits, val}
 use Rattle.bits.specs.Fields.{flat}
 use Rattle.bits.proofs.Value.{length-bits, bits-val, take-bits, val-lt}
 use Rattle.bits.proofs.Fields.{length-flat, flat-append}
-use Rattle.content.specs.Held.{bitsOf}
+use Rattle.content.specs.Halves.{bitsOf}
 use Rattle.content.specs.Packing.{longest}
-use Rattle.record.specs.Layout.{contentIn}
+use Rattle.record.specs.Layout.{recordSize, contentIn}
 
-module _ (r : List ℕ) (long : length r ≡ 32) where
+module _ (r : List ℕ) (long : length r ≡ recordSize) where
   length-high : length (flat 8 (take 8 (drop 16 r))) ≡ 64
   length-high = length-flat 8 (take 8 (drop 16 r)) ∙ ap (λ (n : ℕ). n * 8) (length-take-le 8 (drop 16 r) (omega (arith, length-drop 16 r)))
 

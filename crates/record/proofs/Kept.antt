@@ -9,14 +9,13 @@ use Rattle.bits.proofs.Fields.{length-words}
 use Rattle.content.specs.declared.item.Item.{Item}
 use Rattle.content.specs.Packing.{packing, zeros, longest}
 use Rattle.content.specs.Stored.{listed}
-use Rattle.content.specs.Answers.{packedOf}
 use Rattle.report.specs.declared.Report.{Report}
 use Rattle.report.specs.declared.Form.{Form}
 use Rattle.report.specs.declared.Form.the-variants.{Single, Multi}
 use Rattle.report.specs.declared.Packing.the-variants.{Groups, Refused}
 use Rattle.report.specs.Fits.{reportFits}
 use Rattle.report.specs.Record.{bytesOf, groupsFor, groupsOf, packReport, bytesAfter}
-use Rattle.report.proofs.Kept.{kept-few, kept-groups, packed-whole, unfit-kept}
+use Rattle.report.proofs.Kept.{kept-short, packed-whole, unfit-kept}
 
 pub length-bytes : (its : List Item) → length (bytesOf its) ≡ 14
 unfolding bytesOf
@@ -24,11 +23,12 @@ length-bytes its = length-words 8 14 (packing its ++ zeros (longest - length (pa
 
 module _ (r : Report) (fit : reportFits r ≡ true) where
   pub groups-few : groupsOf r ≤ 5
-  groups-few = by-form (r .form) (kept-groups r fit)
+  unfolding groupsOf
+  groups-few = by-form (r .form)
     where
-      by-form : (f : Form) → groupsFor f (packedOf (r .items) .answer) ≡ groupsOf r → groupsOf r ≤ 5
-      by-form Single e = unfold groupsFor in omega arith
-      by-form Multi e = unfold groupsFor in omega (arith, kept-few r fit)
+      by-form : (f : Form) → groupsFor f (length (packing (listed (r .items)))) ≤ 5
+      by-form Single = unfold groupsFor in omega arith
+      by-form Multi = unfold groupsFor in omega (arith, kept-short r fit)
 
   module _ (out : List ℕ) (long : length out ≡ 14) where
     pub packed-bytes : bytesAfter r out ≡ bytesOf (listed (r .items))

@@ -1,15 +1,13 @@
 pub mod Filling
 pub mod Ranges
 pub mod Bytes
-pub mod Parts
 pub mod Zeros
 pub mod Tested
-pub mod Places
 pub mod Steps
-pub mod Readings
 pub mod Kept
+pub mod Makings
 pub mod FreeFits
-pub mod Fields
+pub mod MadeFields
 pub mod WayBack
 pub mod Reports
 pub mod MadeFits

@@ -1,16 +1,16 @@
 -- The record made from a report is well-formed.
-use Prim.Native.Nat.{ℕ, zero, suc, _+_, _-_, _*_, _/_, _%_, _^_, _≤_, _<_}
+use Prim.Native.Nat.{ℕ, zero, suc, _+_, _-_, _*_, _^_, _≤_, _<_}
 use native.Mathlib.Omega.{arith}
-use mathlib.Core.Path.{_≡_, refl, sym, ap, ap₂, subst, _∙_}
+use mathlib.Core.Path.{_≡_, refl, ap, ap₂, subst, _∙_}
 use mathlib.Core.Bool.{Bool, true, false, not, _&&_, _||_}
 use mathlib.Core.List.{List, [], _∷_, _++_}
-use lib.ListN.{length, take, drop, getD, replicate, getD-replicate, length-append, length-replicate, length-drop, List·getD-append}
-use lib.Seq.{drop-append-add, getD-take, getD-drop, length-take-le}
-use lib.Dec.{eqb}
-use borrow.Author.Tests.{le-leb, ne-eqb}
+use lib.ListN.{length, take, drop, getD, replicate, length-append, length-replicate, length-drop}
+use lib.Seq.{drop-append-add, length-take-le}
+use lib.Dec.{eqb, leb}
+use borrow.Author.Tests.{leb-true, le-leb, lt-ltb, ne-eqb}
 use Rattle.bits.specs.Bits.{val, allZero}
 use Rattle.bits.specs.Fields.{flat, words}
-use Rattle.bits.proofs.Choice.{passed-over}
+use Rattle.bits.proofs.Choice.{and-left, and-right}
 use Rattle.bits.proofs.Value.{val-lt}
 use Rattle.content.specs.declared.item.Item.{Item}
 use Rattle.content.specs.Packing.{zeros, packing, groupBits, longest}
@@ -21,15 +21,15 @@ use Rattle.report.specs.declared.Report.{Report}
 use Rattle.report.specs.declared.Form.{Form}
 use Rattle.report.specs.declared.Form.the-variants.{Single, Multi}
 use Rattle.report.specs.Fits.{fitsBy, reportFits}
-use Rattle.report.specs.Record.{bytesOf, groupsBy, groupsOf}
+use Rattle.report.specs.Record.{bytesOf, groupsFor, groupsOf}
 use Rattle.report.proofs.Multi.{fit-writable}
 use Rattle.report.proofs.Kept.{no-items, single-none, report-items}
 use Rattle.record.specs.declared.Service.{Service}
-use Rattle.record.specs.Layout.{byteAt, expiryIn}
-use Rattle.record.specs.Made.{recordOf}
-use Rattle.record.specs.WellFormed.{lows, highs, inRange, byteFits, allBelow, rangesFit, contentBits, spareIn, restFits, wellFormed}
-use Rattle.record.proofs.Kept.{groups-few}
-use Rattle.record.proofs.Fields.{used-back, groups-back, expiry-back, content-back, class-back, country-back}
+use Rattle.record.specs.Layout.{groupsIn, expiryIn, classIn}
+use Rattle.record.specs.Made.{tailBytes, serviceFits, marksFit, canMake, recordOf}
+use Rattle.record.specs.WellFormed.{widths, within, rangesFit, marked, complete, contentBits, spareIn, restFits, wellFormed}
+use Rattle.record.proofs.Kept.{length-bytes, groups-few}
+use Rattle.record.proofs.MadeFields.{used-back, groups-back, expiry-back, content-back, class-back}
 use Rattle.record.proofs.WayBack.{bits-back}
 use Rattle.record.proofs.Reports.{report-ranges}
 
@@ -56,35 +56,46 @@ zero-after l m n h =
     ∙ ap allZero (drop-append-add l (zeros m) (n - length l))
     ∙ allZero-drop (n - length l) (zeros m) (allZero-zeros m)
 
--- one byte more that is in its range
-next-fits : (p : ℕ → Bool) (n : ℕ) → p n ≡ true → allBelow p n ≡ true → allBelow p (suc n) ≡ true
-unfolding allBelow
-next-fits p n e h = ap₂ (λ (a b : Bool). a && b) h e
+-- one byte more that is in its range, and a byte of content
+within-next : (w x : ℕ) (ws xs : List ℕ) → x < 2 ^ w → within ws xs ≡ true → within (w ∷ ws) (x ∷ xs) ≡ true
+unfolding within
+within-next w x ws xs h e = ap₂ (λ (a b : Bool). a && b) (lt-ltb x (2 ^ w) h) e
 
--- a byte of a used record between the least and the greatest
-byte-fits : (j u b : ℕ) → u ≡ 1 → getD lows j 0 ≤ b → b ≤ getD highs j 0 → byteFits u j b ≡ true
-unfolding inRange
-byte-fits j u b e l h = passed-over _ _ _ (ne-eqb u 0 (λ z. omega arith)) ∙ ap₂ (λ (x y : Bool). x && y) (le-leb (getD lows j 0) b l) (le-leb b (getD highs j 0) h)
+within-any : (n : ℕ) (xs ys ws : List ℕ) → length xs ≡ n → ((j : ℕ) → j < n → getD xs j 0 < 256) → within ws ys ≡ true → within (replicate n 8 ++ ws) (xs ++ ys) ≡ true
+within-any zero [] ys ws l h e = e
+within-any zero (x ∷ xs) ys ws l h e = absurd (omega arith)
+within-any (suc n) [] ys ws l h e = absurd (omega arith)
+within-any (suc n) (x ∷ xs) ys ws l h e = within-next _ _ _ _ (h 0 (omega arith)) (within-any n xs ys ws (omega arith) (λ j k. h (suc j) (omega arith)) e)
 
--- the content may be any bytes
-content-low : (j : ℕ) → j < 14 → getD lows (16 + j) 0 ≡ 0
-unfolding lows
-content-low j k = sym (getD-drop 16 lows j 0) ∙ List·getD-append (replicate 14 0) (1 ∷ 0 ∷ []) 0 j (omega (arith, length-replicate {A = ℕ} 14 0)) ∙ getD-replicate 14 j 0 0 k
+-- what is tested before a record is made
+record Ranges (r : Report) (s : Service) (class expiry : ℕ) : Type 0 where
+  report-fits : reportFits r ≡ true
+  country-le : s .country ≤ 15
+  ltn-le : s .ltn ≤ 63
+  sid-le : s .sid ≤ 63
+  class-ge : 1 ≤ class
+  class-le : class ≤ 63
+  expiry-ge : 1 ≤ expiry
 
-content-high : (j : ℕ) → j < 14 → getD highs (16 + j) 0 ≡ 255
-unfolding highs
-content-high j k = sym (getD-drop 16 highs j 0) ∙ List·getD-append (replicate 14 255) (63 ∷ 15 ∷ []) 0 j (omega (arith, length-replicate {A = ℕ} 14 255)) ∙ getD-replicate 14 j 255 0 k
-
--- what is tested before a report is stored
-pub record Storable (r : Report) (s : Service) (class expiry : ℕ) : Type 0 where
-  pub report-fits : reportFits r ≡ true
-  pub country-le : s .country ≤ 15
-  pub ltn-le : s .ltn ≤ 63
-  pub sid-le : s .sid ≤ 63
-  pub class-ge : 1 ≤ class
-  pub class-le : class ≤ 63
-  pub expiry-ge : 1 ≤ expiry
-  pub expiry-lt : expiry < 0x1_0000_0000
+ranges : (r : Report) (s : Service) (class expiry : ℕ) → canMake r s class expiry ≡ true → Ranges r s class expiry
+unfolding canMake
+ranges r s class expiry e =
+    let places = leb (s .ltn) 63 && leb (s .sid) 63 in
+    let classes = leb 1 class && leb class 63 in
+    let marks = and-left (marksFit s class expiry) (reportFits r) e in
+    let service = and-left (serviceFits s) (classes && leb 1 expiry) marks in
+    let rest = and-right (serviceFits s) (classes && leb 1 expiry) marks in
+    let in-places = and-right (leb (s .country) 15) places service in
+    let in-class = and-left classes (leb 1 expiry) rest in
+    record {
+      report-fits = and-right (marksFit s class expiry) (reportFits r) e;
+      country-le = leb-true (s .country) 15 (and-left (leb (s .country) 15) places service);
+      ltn-le = leb-true (s .ltn) 63 (and-left (leb (s .ltn) 63) (leb (s .sid) 63) in-places);
+      sid-le = leb-true (s .sid) 63 (and-right (leb (s .ltn) 63) (leb (s .sid) 63) in-places);
+      class-ge = leb-true 1 class (and-left (leb 1 class) (leb class 63) in-class);
+      class-le = leb-true class 63 (and-right (leb 1 class) (leb class 63) in-class);
+      expiry-ge = leb-true 1 expiry (and-right classes (leb 1 expiry) rest);
+    }
 
 module _ (r : Report) (fit : reportFits r ≡ true) where
   its-short : length (packing (listed (r .items))) ≤ longest
@@ -92,23 +103,22 @@ module _ (r : Report) (fit : reportFits r ≡ true) where
 
   -- the groups hold the items
   groups-hold : (1 ≤ groupsOf r) × (length (packing (listed (r .items))) ≤ groupBits * (groupsOf r - 1))
-  unfolding reportFits groupsOf groupsBy packing
+  unfolding reportFits groupsOf groupsFor packing
   groups-hold = by-form (r .form) fit
     where
-      by-form : (f : Form) → fitsBy f r ≡ true → (1 ≤ groupsBy f (listed (r .items))) × (length (packing (listed (r .items))) ≤ groupBits * (groupsBy f (listed (r .items)) - 1))
+      by-form : (f : Form) → fitsBy f r ≡ true → (1 ≤ groupsFor f (length (packing (listed (r .items))))) × (length (packing (listed (r .items))) ≤ groupBits * (groupsFor f (length (packing (listed (r .items)))) - 1))
       by-form Single h =
           let none : listed (r .items) ≡ [] = no-items (r .items) (single-none r (unfold fitsBy in h)) in
           let empty : length (packing (listed (r .items))) ≡ 0 = ap (λ (its : List Item). length (packing its)) none in
           omega arith
       by-form Multi h = omega arith
 
-module _ (r : Report) (s : Service) (class expiry : ℕ) (c : Storable r s class expiry) where
+module _ (r : Report) (s : Service) (class expiry : ℕ) (can : canMake r s class expiry ≡ true) (short : expiry < 0x1_0000_0000) where
+  abbrev c : Ranges r s class expiry
+  c = ranges r s class expiry can
+
   abbrev made : List ℕ
   made = recordOf r s class expiry
-
-  -- byte j is in its range
-  abbrev byteOk : ℕ → Bool
-  byteOk j = byteFits (byteAt made 0) j (byteAt made j)
 
   spare-zero : allZero (spareIn made) ≡ true
   spare-zero =
@@ -118,56 +128,36 @@ module _ (r : Report) (s : Service) (class expiry : ℕ) (c : Storable r s class
       ap (λ (l : List Bool). allZero (drop (contentBits made) l)) (ap (flat 8) (content-back r s class expiry) ∙ bits-back its (its-short r fit))
       ∙ zero-after (packing its) (longest - length (packing its)) (contentBits made) hold
 
-  content-byte : (j : ℕ) → j < 14 → byteAt made (16 + j) ≡ getD (bytesOf (listed (r .items))) j 0
-  content-byte j k = sym (getD-take 14 (drop 16 made) j 0 k ∙ getD-drop 16 made j 0) ∙ ap (λ (l : List ℕ). getD l j 0) (content-back r s class expiry)
-
-  content-ranges : (n : ℕ) → n ≤ 14 → allBelow byteOk 16 ≡ true → allBelow byteOk (16 + n) ≡ true
-  content-ranges zero h before = before
-  content-ranges (suc n) h before =
-      let e : 16 + suc n ≡ suc (16 + n) = omega arith in
-      let k : n < 14 = omega arith in
-      let b : byteAt made (16 + n) ≤ 255 = omega (arith, content-byte n k, byte-lt (listed (r .items)) n (its-short r (c .report-fits)) k) in
-      let fine = byte-fits (16 + n) (byteAt made 0) (byteAt made (16 + n)) (used-back r s class expiry) (omega (arith, content-low n k)) (omega (arith, content-high n k)) in
-      ap (allBelow byteOk) e ∙ next-fits byteOk (16 + n) fine (content-ranges n (omega arith) before)
-
-  first-ranges : allBelow byteOk 16 ≡ true
-  unfolding recordOf lows highs allBelow
-  first-ranges =
+  made-ranges : rangesFit made ≡ true
+  unfolding rangesFit recordOf widths
+  made-ranges =
       let in-report = report-ranges r (c .report-fits) in
+      let known = c in
       let in-head = in-report .head-in in
       let few = groups-few r (c .report-fits) in
-      let hold = groups-hold r (c .report-fits) in
-      let start : allBelow byteOk 0 ≡ true = refl in
-      let at : (j b : ℕ) → getD lows j 0 ≤ b → b ≤ getD highs j 0 → byteFits 1 j b ≡ true = λ j b l h. byte-fits j 1 b refl l h in
-      next-fits byteOk 15 (at 15 (expiry / 0x100_0000) (omega arith) (omega arith))
-      (next-fits byteOk 14 (at 14 (expiry / 0x1_0000 % 256) (omega arith) (omega arith))
-      (next-fits byteOk 13 (at 13 (expiry / 0x100 % 256) (omega arith) (omega arith))
-      (next-fits byteOk 12 (at 12 (expiry % 256) (omega arith) (omega arith))
-      (next-fits byteOk 11 (at 11 (r .duration) (omega arith) (omega arith))
-      (next-fits byteOk 10 (at 10 (r .diversion) (omega arith) (omega arith))
-      (next-fits byteOk 9 (at 9 (r .head .extent) (omega arith) (omega arith))
-      (next-fits byteOk 8 (at 8 (r .head .direction) (omega arith) (omega arith))
-      (next-fits byteOk 7 (at 7 (r .head .event / 256) (omega arith) (omega arith))
-      (next-fits byteOk 6 (at 6 (r .head .event % 256) (omega arith) (omega arith))
-      (next-fits byteOk 5 (at 5 (r .head .location / 256) (omega arith) (omega arith))
-      (next-fits byteOk 4 (at 4 (r .head .location % 256) (omega arith) (omega arith))
-      (next-fits byteOk 3 (at 3 (s .ltn) (omega arith) (omega arith))
-      (next-fits byteOk 2 (at 2 (s .sid) (omega arith) (omega arith))
-      (next-fits byteOk 1 (at 1 (groupsOf r) (omega arith) (omega arith))
-      (next-fits byteOk 0 (at 0 1 (omega arith) (omega arith)) start)))))))))))))))
+      let its = listed (r .items) in
+      let none : within [] [] ≡ true = unfold within in refl in
+      let last : within (drop 30 widths) (tailBytes class s) ≡ true = within-next _ _ _ _ (omega arith) (within-next _ _ _ _ (omega arith) none) in
+      let content = within-any 14 (bytesOf its) (tailBytes class s) (drop 30 widths) (length-bytes its) (λ j k. byte-lt its j (its-short r (c .report-fits)) k) last in
+      within-next _ _ _ _ (omega arith) (within-next _ _ _ _ (omega arith) (within-next _ _ _ _ (omega arith) (within-next _ _ _ _ (omega arith)
+      (within-next _ _ _ _ (omega arith) (within-next _ _ _ _ (omega arith) (within-next _ _ _ _ (omega arith) (within-next _ _ _ _ (omega arith)
+      (within-next _ _ _ _ (omega arith) (within-next _ _ _ _ (omega arith) (within-next _ _ _ _ (omega arith) (within-next _ _ _ _ (omega arith)
+      (within-next _ _ _ _ (omega arith) (within-next _ _ _ _ (omega arith) (within-next _ _ _ _ (omega arith) (within-next _ _ _ _ (omega arith) content)))))))))))))))
 
-  made-ranges : rangesFit made ≡ true
-  unfolding rangesFit lows highs
-  made-ranges =
-      let used = used-back r s class expiry in
-      let class-is = class-back r s class expiry in
-      let country-is = country-back r s class expiry in
-      next-fits byteOk 31 (byte-fits 31 (byteAt made 0) (byteAt made 31) used (omega arith) (omega arith))
-      (next-fits byteOk 30 (byte-fits 30 (byteAt made 0) (byteAt made 30) used (omega arith) (omega arith)) (content-ranges 14 (omega arith) first-ranges))
+  made-complete : complete made ≡ true
+  unfolding complete marked
+  made-complete =
+      let known = c in
+      let few = groups-few r (c .report-fits) in
+      let hold = groups-hold r (c .report-fits) in
+      let groups = groups-back r s class expiry in
+      let ends : expiryIn made ≡ 0 → ⊥ = λ z. omega (arith, expiry-back r s class expiry) in
+      let classed : classIn made ≡ 0 → ⊥ = λ z. omega (arith, class-back r s class expiry) in
+      ap₂ (λ (a b : Bool). a && b) (ap₂ (λ (a b : Bool). a && b) (le-leb 1 (groupsIn made) (omega arith)) (le-leb (groupsIn made) 5 (omega arith)))
+      (ap₂ (λ (a b : Bool). not a && not b) (ne-eqb (expiryIn made) 0 ends) (ne-eqb (classIn made) 0 classed))
 
   pub made-fits : wellFormed (recordOf r s class expiry) ≡ true
   unfolding wellFormed restFits
   made-fits =
-      let ends : expiryIn made ≡ 0 → ⊥ = λ z. omega (arith, expiry-back r s class expiry) in
-      let rest : not (eqb (expiryIn made) 0) && allZero (spareIn made) ≡ true = ap₂ (λ (a b : Bool). not a && b) (ne-eqb (expiryIn made) 0 ends) spare-zero in
-      ap₂ (λ (a b : Bool). a && b) made-ranges (ap (λ (n : ℕ). eqb n 0 || (not (eqb (expiryIn made) 0) && allZero (spareIn made))) (used-back r s class expiry) ∙ rest)
+      ap₂ (λ (a b : Bool). a && b) made-ranges
+      (ap (λ (n : ℕ). eqb n 0 || complete made && allZero (spareIn made)) (used-back r s class expiry) ∙ ap₂ (λ (a b : Bool). a && b) made-complete spare-zero)

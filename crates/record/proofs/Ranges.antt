@@ -1,14 +1,22 @@
 -- What the ranges of a record's bytes say.
 use Prim.Native.Nat.{ℕ, zero, suc, _+_, _≤_, _<_}
 use mathlib.Core.Path.{_≡_, refl, sym, ap, ap₂, subst, _∙_}
-use mathlib.Core.Bool.{Bool, true, false, _&&_, and-assoc, and-true}
-use mathlib.Core.List.{List}
+use mathlib.Core.Bool.{Bool, true, false, _&&_, _||_, and-assoc, and-true}
+use mathlib.Core.List.{List, [], _∷_}
 use native.Mathlib.Omega.{arith}
+use lib.ListN.{take, drop, getD}
+use lib.Seq.{getD-drop}
 use lib.Dec.{leb, eqb}
 use borrow.Author.Tests.{leb-true, eqb-true, eqb-false, ne-eqb}
-use Rattle.bits.proofs.Choice.{and-left, and-right, passed-over}
-use Rattle.record.specs.Layout.{recordSize, byteAt, groupsIn}
-use Rattle.record.specs.WellFormed.{lows, highs, inRange, byteFits, allBelow, rangesFit, restFits, wellFormed}
+use Rattle.bits.specs.Bits.{allZero}
+use Rattle.bits.proofs.Choice.{and-left, and-right}
+use Rattle.record.specs.Layout.{byteAt, groupsIn}
+use Rattle.record.specs.WellFormed.{rangesFit, marked, complete, spareIn, restFits, wellFormed}
+
+-- a test holds of every number below n
+unfoldable pub allBelow : (ℕ → Bool) → ℕ → Bool
+allBelow p zero = true
+allBelow p (suc n) = allBelow p n && p n
 
 below : {j n : ℕ} → (j ≡ n → ⊥) → j < suc n → j < n
 below {j} {n} ne h = omega arith
@@ -29,26 +37,37 @@ allBelow-fails p n j h e = by-test (allBelow p n) refl
     by-test true f = f ∙ sym (allBelow-at p n j f h) ∙ e
     by-test false f = f
 
-pub allBelow-add : (p : ℕ → Bool) (n m : ℕ) → allBelow p (n + m) ≡ allBelow p n && allBelow (λ k. p (n + k)) m
-unfolding allBelow
-allBelow-add p n zero = let z : n + 0 ≡ n = omega arith in ap (allBelow p) z ∙ sym (and-true (allBelow p n))
-allBelow-add p n (suc m) =
-    let s : n + suc m ≡ suc (n + m) = omega arith in
-    ap (allBelow p) s ∙ ap (λ (b : Bool). b && p (n + m)) (allBelow-add p n m) ∙ and-assoc (allBelow p n) (allBelow (λ k. p (n + k)) m) (p (n + m))
-
 pub allBelow-same : (p q : ℕ → Bool) (n : ℕ) → ((k : ℕ) → k < n → p k ≡ q k) → allBelow p n ≡ allBelow q n
 unfolding allBelow
 allBelow-same p q zero h = refl
 allBelow-same p q (suc n) h = ap₂ (λ (a b : Bool). a && b) (allBelow-same p q n (λ k l. h k (omega arith))) (h n (omega arith))
 
--- a used record has one to five groups
-pub groups-range : (r : List ℕ) → rangesFit r ≡ true → (byteAt r 0 ≡ 0 → ⊥) → (1 ≤ groupsIn r) × (groupsIn r ≤ 5)
-unfolding rangesFit inRange lows highs
-groups-range r h used =
-    let fit = allBelow-at (λ j. byteFits (byteAt r 0) j (byteAt r j)) recordSize 1 h (omega arith) in
-    let both = sym (passed-over _ _ _ (ne-eqb (byteAt r 0) 0 used)) ∙ fit in
-    (leb-true 1 (groupsIn r) (and-left (leb 1 (groupsIn r)) (leb (groupsIn r) 5) both), leb-true (groupsIn r) 5 (and-right (leb 1 (groupsIn r)) (leb (groupsIn r) 5) both))
+pub allBelow-true : (p : ℕ → Bool) (n : ℕ) → ((k : ℕ) → k < n → p k ≡ true) → allBelow p n ≡ true
+unfolding allBelow
+allBelow-true p zero h = refl
+allBelow-true p (suc n) h = ap₂ (λ (a b : Bool). a && b) (allBelow-true p n (λ k l. h k (omega arith))) (h n (omega arith))
 
-pub ranges-of : (r : List ℕ) → wellFormed r ≡ true → rangesFit r ≡ true
-unfolding wellFormed
-ranges-of r h = and-left (rangesFit r) (restFits r) h
+-- from the first one on
+pub allBelow-first : (p : ℕ → Bool) (n : ℕ) → allBelow p (suc n) ≡ p 0 && allBelow (λ k. p (suc k)) n
+unfolding allBelow
+allBelow-first p zero = sym (and-true (p 0))
+allBelow-first p (suc n) = ap (λ (b : Bool). b && p (suc n)) (allBelow-first p n) ∙ and-assoc (p 0) (allBelow (λ k. p (suc k)) n) (p (suc n))
+
+-- a part of bytes
+front-lt : (n : ℕ) (l : List ℕ) (i : ℕ) → ((j : ℕ) → getD l j 0 < 256) → getD (take n l) i 0 < 256
+front-lt zero l i h = omega arith
+front-lt (suc n) [] i h = omega arith
+front-lt (suc n) (x ∷ l) zero h = h 0
+front-lt (suc n) (x ∷ l) (suc i) h = front-lt n l i (λ j. h (suc j))
+
+pub take-lt : (n a : ℕ) (r : List ℕ) (i : ℕ) → ((j : ℕ) → getD r j 0 < 256) → getD (take n (drop a r)) i 0 < 256
+take-lt n a r i h = front-lt n (drop a r) i (λ j. subst (λ (m : ℕ). m < 256) (sym (getD-drop a r j 0)) (h (a + j)))
+
+-- a used record has one to five groups
+pub groups-range : (r : List ℕ) → wellFormed r ≡ true → (byteAt r 0 ≡ 0 → ⊥) → (1 ≤ groupsIn r) × (groupsIn r ≤ 5)
+unfolding wellFormed restFits complete
+groups-range r h used =
+    let groups = leb 1 (groupsIn r) && leb (groupsIn r) 5 in
+    let rest : (groups && marked r) && allZero (spareIn r) ≡ true = sym (ap (λ (b : Bool). b || (groups && marked r) && allZero (spareIn r)) (ne-eqb (byteAt r 0) 0 used)) ∙ and-right (rangesFit r) (restFits r) h in
+    let both = and-left groups (marked r) (and-left (groups && marked r) (allZero (spareIn r)) rest) in
+    (leb-true 1 (groupsIn r) (and-left (leb 1 (groupsIn r)) (leb (groupsIn r) 5) both), leb-true (groupsIn r) 5 (and-right (leb 1 (groupsIn r)) (leb (groupsIn r) 5) both))

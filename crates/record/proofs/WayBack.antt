@@ -7,6 +7,7 @@ use native.Mathlib.Omega.{arith}
 use lib.ListN.{length, take, length-append, length-replicate}
 use lib.Seq.{take-append-add}
 use Rattle.bits.specs.Fields.{flat}
+use Rattle.bits.specs.Outcome.{Outcome, gives, mapped}
 use Rattle.bits.proofs.Fields.{flat-words}
 use Rattle.word.specs.declared.Head.{Head}
 use Rattle.content.specs.declared.item.Item.{Item}
@@ -17,10 +18,10 @@ use Rattle.content.proofs.WrittenIsRead.{packable-short, writable-packable, wri
 use Rattle.report.specs.declared.Report.{Report}
 use Rattle.report.specs.declared.Form.{Form}
 use Rattle.report.specs.declared.Form.the-variants.{Single, Multi}
-use Rattle.report.specs.Report.{singleReport}
-use Rattle.report.specs.Read.{Message, report, withHead, readBits}
+use Rattle.report.specs.Report.{singleReport, multiReport}
+use Rattle.report.specs.Read.{readBits}
 use Rattle.report.specs.Fits.{fitsBy, reportFits}
-use Rattle.report.specs.Record.{bytesOf, groupsBy, groupsOf}
+use Rattle.report.specs.Record.{bytesOf, groupsFor, groupsOf}
 use Rattle.report.proofs.Multi.{fit-writable}
 use Rattle.report.proofs.Kept.{report-items}
 use Rattle.report.proofs.WayBack.{multi-is-report, single-is-report}
@@ -29,7 +30,7 @@ use Rattle.record.specs.declared.Answer.the-variants.{Read}
 use Rattle.record.specs.Layout.{byteAt, groupsIn, serviceIn, expiryIn}
 use Rattle.record.specs.Made.{recordOf}
 use Rattle.record.specs.Reads.{messageIn, answered, readingIn}
-use Rattle.record.proofs.Fields.{used-back, groups-back, head-back, expiry-back, content-back, service-back}
+use Rattle.record.proofs.MadeFields.{used-back, groups-back, head-back, expiry-back, content-back, service-back}
 use Rattle.record.proofs.Steps.{single-message, multi-message, used-reading}
 
 -- the bytes of items are their bits and zeros
@@ -55,26 +56,26 @@ padded-back its short =
 -- the groups of a report are the fewest: one for a single-group report, else no more than any number of groups whose content holds the items
 module _ (r : Report) where
   pub single-groups : r .form ≡ Single → groupsOf r ≡ 1
-  unfolding groupsOf groupsBy
-  single-groups e = ap (λ (f : Form). groupsBy f (listed (r .items))) e
+  unfolding groupsOf groupsFor
+  single-groups e = ap (λ (f : Form). groupsFor f (length (packing (listed (r .items))))) e
 
   multi-groups : r .form ≡ Multi → groupsOf r ≡ groups (length (packing (listed (r .items))))
-  unfolding groupsOf groupsBy
-  multi-groups e = ap (λ (f : Form). groupsBy f (listed (r .items))) e
+  unfolding groupsOf groupsFor
+  multi-groups e = ap (λ (f : Form). groupsFor f (length (packing (listed (r .items))))) e
 
   pub fewest-groups : r .form ≡ Multi → (k : ℕ) → 2 ≤ k → length (packing (listed (r .items))) ≤ groupBits * (k - 1) → groupsOf r ≤ k
   fewest-groups e k many hold = let n = length (packing (listed (r .items))) in omega (arith, multi-groups e)
 
 module _ (r : Report) (s : Service) (class expiry : ℕ) (sized : length (r .items .places) ≡ limit) (fit : reportFits r ≡ true) where
-  pub reads-back : messageIn (recordOf r s class expiry) ≡ report r
+  pub reads-back : messageIn (recordOf r s class expiry) ≡ gives r
   unfolding reportFits fitsBy recordOf
   reads-back = by-form (r .form) refl fit
     where
-      by-form : (f : Form) → r .form ≡ f → fitsBy f r ≡ true → messageIn (recordOf r s class expiry) ≡ report r
+      by-form : (f : Form) → r .form ≡ f → fitsBy f r ≡ true → messageIn (recordOf r s class expiry) ≡ gives r
       by-form Single e h =
           single-message (recordOf r s class expiry) (groups-back r s class expiry ∙ single-groups r e)
-          ∙ ap (λ (x : Head). report (singleReport (r .duration) (r .diversion) x)) (head-back r s class expiry)
-          ∙ ap report (single-is-report 0 r sized (unfold fitsBy in h) e)
+          ∙ ap (λ (x : Head). gives (singleReport (r .duration) (r .diversion) x)) (head-back r s class expiry)
+          ∙ ap gives (single-is-report 0 r sized (unfold fitsBy in h) e)
       by-form Multi e h =
           let its = listed (r .items) in
           let n = length (packing its) in
@@ -84,8 +85,8 @@ module _ (r : Report) (s : Service) (class expiry : ℕ) (sized : length (r .ite
           multi-message (recordOf r s class expiry) many
           ∙ ap₂ (λ (x : Head) (l : List Bool). readBits x l) (head-back r s class expiry)
           (ap₂ (λ (m : ℕ) (l : List ℕ). take (groupBits * (m - 1)) (flat 8 l)) (multi-groups r e) (content-back r s class expiry) ∙ padded-back its short)
-          ∙ unfold readBits withHead in ap (withHead (r .head)) (written-is-read its can)
-          ∙ ap report (multi-is-report 0 r sized (unfold fitsBy in h) e)
+          ∙ unfold readBits in ap (mapped (multiReport (r .head))) (written-is-read its can)
+          ∙ ap gives (multi-is-report 0 r sized (unfold fitsBy in h) e)
 
   -- the whole reading: the report with its service and its expiry
   pub reading-back : readingIn (recordOf r s class expiry) ≡ record { answer = Read; report = r; service = s; expiry = expiry }
@@ -93,5 +94,5 @@ module _ (r : Report) (s : Service) (class expiry : ℕ) (sized : length (r .ite
   reading-back =
       let used : byteAt (recordOf r s class expiry) 0 ≡ 0 → ⊥ = λ z. omega (arith, used-back r s class expiry) in
       used-reading (recordOf r s class expiry) used
-      ∙ ap (λ (m : Message). answered m (serviceIn (recordOf r s class expiry)) (expiryIn (recordOf r s class expiry))) reads-back
-      ∙ ap₂ (λ (x : Service) (n : ℕ). answered (report r) x n) (service-back r s class expiry) (expiry-back r s class expiry)
+      ∙ ap (λ (m : Outcome Report ℕ). answered m (serviceIn (recordOf r s class expiry)) (expiryIn (recordOf r s class expiry))) reads-back
+      ∙ ap₂ (λ (x : Service) (n : ℕ). answered (gives r) x n) (service-back r s class expiry) (expiry-back r s class expiry)

@@ -1,20 +1,26 @@
 -- Bits that must be zero, byte by byte and in numbers of several bytes.
 use Prim.Native.Nat.{ℕ, zero, suc, _+_, _-_, _*_, _^_, _≤_, _<_}
-use mathlib.Core.Path.{_≡_, refl, sym, ap, ap₂, _∙_}
+use mathlib.Core.Path.{_≡_, refl, sym, ap, ap₂, subst, _∙_}
 use mathlib.Core.Bool.{Bool, true, false, not, _&&_, and-assoc}
-use mathlib.Core.List.{List, [], _∷_, _++_}
+use mathlib.Core.List.{List, [], _∷_, _++_, map}
 use native.Mathlib.Omega.{arith}
-use lib.ListN.{length, drop, getD, drop-of-length-le}
-use lib.Dec.{leb, eqb}
+use lib.ListN.{length, take, drop, getD, replicate, drop-of-length-le, List·getD-eq-default}
+use lib.Dec.{leb, ltb, eqb}
 use lib.Bits.{bitAnd, and-zero-l, and-zero-r, and-mask, and-block}
-use borrow.Author.Tests.{leb-true, leb-false, eqb-true, eqb-false, eq-eqb, ne-eqb}
+use borrow.Author.Tests.{leb-true, leb-false, ltb-true, ltb-false, eqb-true, eqb-false, eq-eqb, ne-eqb}
 use Rattle.bits.specs.Bits.{bits, allZero}
 use Rattle.bits.specs.Fields.{flat}
+use Rattle.bits.proofs.Choice.{and-left, and-right}
 use Rattle.bits.proofs.Value.{length-bits, val-bits, drop-bits, allZero-append, allZero-val}
-use Rattle.record.specs.Layout.{little}
-use Rattle.record.specs.WellFormed.{allBelow}
+use Rattle.record.specs.Layout.{byteAt, eightAt}
+use Rattle.record.specs.WellFormed.{within}
 use Rattle.record.specs.Zeros.{spares}
-use Rattle.record.proofs.Ranges.{allBelow-at}
+use Rattle.record.proofs.Ranges.{allBelow, allBelow-at, allBelow-same, allBelow-true, allBelow-first}
+
+-- the number that bytes are, the first one lowest
+unfoldable pub little : List ℕ → ℕ
+little [] = 0
+little (b ∷ bs) = little bs * 256 + b
 
 -- the bits of each mask are zero in its byte
 unfoldable pub clear : (ms xs : List ℕ) → Bool
@@ -44,14 +50,39 @@ clear-is (m ∷ ms) (x ∷ xs) hm hx =
     ∙ sum-zero (bitAnd (little xs) (little ms)) (bitAnd x m)
     ∙ ap (λ (b : Bool). eqb (bitAnd x m) 0 && b) (clear-is ms xs (λ i. hm (suc i)) (λ i. hx (suc i)))
 
-pub clear-append : (ms ns xs ys : List ℕ) → length ms ≡ length xs → clear (ms ++ ns) (xs ++ ys) ≡ clear ms xs && clear ns ys
+-- no masks, and none of any use
+clear-empty : (ms : List ℕ) → clear ms [] ≡ true
 unfolding clear
-clear-append [] ns [] ys e = refl
-clear-append [] ns (x ∷ xs) ys e = absurd (omega arith)
-clear-append (m ∷ ms) ns [] ys e = absurd (omega arith)
-clear-append (m ∷ ms) ns (x ∷ xs) ys e =
-    let f : length ms ≡ length xs = omega arith in
-    ap (λ (b : Bool). eqb (bitAnd x m) 0 && b) (clear-append ms ns xs ys f) ∙ sym (and-assoc (eqb (bitAnd x m) 0) (clear ms xs) (clear ns ys))
+clear-empty [] = refl
+clear-empty (m ∷ ms) = refl
+
+pub clear-none : (n : ℕ) (xs : List ℕ) → clear (replicate n 0) xs ≡ true
+unfolding clear
+clear-none zero xs = refl
+clear-none (suc n) [] = refl
+clear-none (suc n) (x ∷ xs) = ap₂ (λ (a : ℕ) (b : Bool). eqb a 0 && b) (and-zero-r x) (clear-none n xs)
+
+-- the first n and the others
+pub clear-split : (n : ℕ) (ms xs : List ℕ) → clear ms xs ≡ clear (take n ms) (take n xs) && clear (drop n ms) (drop n xs)
+unfolding clear
+clear-split zero ms xs = refl
+clear-split (suc n) [] xs = refl
+clear-split (suc n) (m ∷ ms) [] = sym (clear-empty (drop n ms))
+clear-split (suc n) (m ∷ ms) (x ∷ xs) =
+    ap (λ (b : Bool). eqb (bitAnd x m) 0 && b) (clear-split n ms xs)
+    ∙ sym (and-assoc (eqb (bitAnd x m) 0) (clear (take n ms) (take n xs)) (clear (drop n ms) (drop n xs)))
+
+-- byte by byte
+abbrev pub zeroAt : (ms xs : List ℕ) → ℕ → Bool
+zeroAt ms xs k = eqb (bitAnd (getD xs k 0) (getD ms k 0)) 0
+
+pub clear-all : (n : ℕ) (ms xs : List ℕ) → length xs ≤ n → clear ms xs ≡ allBelow (zeroAt ms xs) n
+unfolding clear
+clear-all n [] xs h = sym (allBelow-true (zeroAt [] xs) n (λ k l. ap (λ (x : ℕ). eqb x 0) (and-zero-r (getD xs k 0))))
+clear-all n (m ∷ ms) [] h = sym (allBelow-true (zeroAt (m ∷ ms) []) n (λ k l. ap (λ (x : ℕ). eqb x 0) (and-zero-l (getD (m ∷ ms) k 0))))
+clear-all zero (m ∷ ms) (x ∷ xs) h = absurd (omega arith)
+clear-all (suc n) (m ∷ ms) (x ∷ xs) h =
+    ap (λ (b : Bool). eqb (bitAnd x m) 0 && b) (clear-all n ms xs (omega arith)) ∙ sym (allBelow-first (zeroAt (m ∷ ms) (x ∷ xs)) n)
 
 drop-append : (n : ℕ) (a b : List Bool) → drop n (a ++ b) ≡ drop n a ++ drop (n - length a) b
 drop-append zero a b = let z : 0 ≡ 0 - length a = omega arith in ap (λ (k : ℕ). a ++ drop k b) z
@@ -97,11 +128,66 @@ same-is false false e = refl
 
 -- a byte is below 2 ^ w if the bits above are zero
 abbrev limited : ℕ → ℕ → Bool
-limited w b = same (leb b (2 ^ w - 1)) (eqb (bitAnd b (256 - 2 ^ w)) 0)
+limited w b = same (ltb b (2 ^ w)) (eqb (bitAnd b (256 - 2 ^ w)) 0)
 
 limited-all : allBelow (λ w. allBelow (limited w) 256) 9 ≡ true
 unfolding allBelow same
 limited-all = refl
 
-pub limit : (w b : ℕ) → w < 9 → b < 256 → leb b (2 ^ w - 1) ≡ eqb (bitAnd b (256 - 2 ^ w)) 0
-limit w b hw hb = same-is (leb b (2 ^ w - 1)) (eqb (bitAnd b (256 - 2 ^ w)) 0) (allBelow-at (limited w) 256 b (allBelow-at (λ w. allBelow (limited w) 256) 9 w limited-all hw) hb)
+pub limit : (w b : ℕ) → w < 9 → b < 256 → ltb b (2 ^ w) ≡ eqb (bitAnd b (256 - 2 ^ w)) 0
+limit w b hw hb = same-is (ltb b (2 ^ w)) (eqb (bitAnd b (256 - 2 ^ w)) 0) (allBelow-at (limited w) 256 b (allBelow-at (λ w. allBelow (limited w) 256) 9 w limited-all hw) hb)
+
+-- every number of a list is below n
+unfoldable pub allLess : ℕ → List ℕ → Bool
+allLess n [] = true
+allLess n (m ∷ ms) = ltb m n && allLess n ms
+
+pub all-less : (n d : ℕ) (ms : List ℕ) → d < n → allLess n ms ≡ true → (i : ℕ) → getD ms i d < n
+unfolding allLess
+all-less n d [] k h i = k
+all-less n d (m ∷ ms) k h zero = ltb-true m n (and-left (ltb m n) (allLess n ms) h)
+all-less n d (m ∷ ms) k h (suc i) = all-less n d ms k (and-right (ltb m n) (allLess n ms) h) i
+
+-- the bits of bytes as masks
+pub within-clear : (ws xs : List ℕ) → allLess 9 ws ≡ true → Bytes xs → within ws xs ≡ clear (map (λ w. 256 - 2 ^ w) ws) xs
+unfolding within clear allLess
+within-clear [] xs h b = refl
+within-clear (w ∷ ws) [] h b = refl
+within-clear (w ∷ ws) (x ∷ xs) h b =
+    ap₂ (λ (p q : Bool). p && q) (limit w x (ltb-true w 9 (and-left (ltb w 9) (allLess 9 ws) h)) (b 0)) (within-clear ws xs (and-right (ltb w 9) (allLess 9 ws) h) (λ i. b (suc i)))
+
+-- eight bytes at once
+eights : List ℕ → ℕ → List ℕ
+eights r a = getD r a 0 ∷ getD r (a + 1) 0 ∷ getD r (a + 2) 0 ∷ getD r (a + 3) 0 ∷ getD r (a + 4) 0 ∷ getD r (a + 4 + 1) 0 ∷ getD r (a + 4 + 2) 0 ∷ getD r (a + 4 + 3) 0 ∷ []
+
+eights-at : (r : List ℕ) (a k : ℕ) → k < 8 → getD (eights r a) k 0 ≡ getD r (a + k) 0
+unfolding eights
+eights-at r a zero h = let e : a ≡ a + 0 = omega arith in ap (byteAt r) e
+eights-at r a (suc zero) h = refl
+eights-at r a (suc (suc zero)) h = refl
+eights-at r a (suc (suc (suc zero))) h = refl
+eights-at r a (suc (suc (suc (suc zero)))) h = refl
+eights-at r a (suc (suc (suc (suc (suc zero))))) h = let e : a + 4 + 1 ≡ a + 5 = omega arith in ap (byteAt r) e
+eights-at r a (suc (suc (suc (suc (suc (suc zero)))))) h = let e : a + 4 + 2 ≡ a + 6 = omega arith in ap (byteAt r) e
+eights-at r a (suc (suc (suc (suc (suc (suc (suc zero))))))) h = let e : a + 4 + 3 ≡ a + 7 = omega arith in ap (byteAt r) e
+eights-at r a (suc (suc (suc (suc (suc (suc (suc (suc k)))))))) h = absurd (omega arith)
+
+eights-lt : (r : List ℕ) (a : ℕ) → Bytes r → Bytes (eights r a)
+eights-lt r a h k = by-test (ltb k 8) refl
+  where
+    by-test : (b : Bool) → ltb k 8 ≡ b → getD (eights r a) k 0 < 256
+    by-test true e = subst (λ (n : ℕ). n < 256) (sym (eights-at r a k (ltb-true k 8 e))) (h (a + k))
+    by-test false e = past (eights r a) (unfold eights in refl)
+      where
+        past : (l : List ℕ) → length l ≡ 8 → getD l k 0 < 256
+        past l f = let z = List·getD-eq-default l 0 {n = k} (omega (arith, ltb-false k 8 e)) in omega arith
+
+-- the masks of eight bytes as one mask
+pub eight-zero : (ms xs : List ℕ) (i j : ℕ) → Bytes ms → Bytes xs → eqb (bitAnd (eightAt xs j) (eightAt ms i)) 0 ≡ allBelow (λ k. eqb (bitAnd (getD xs (j + k) 0) (getD ms (i + k) 0)) 0) 8
+eight-zero ms xs i j hm hx =
+    let number : (r : List ℕ) (a : ℕ) → eightAt r a ≡ little (eights r a) = λ r a. unfold little eights in omega arith in
+    let size : length (eights xs j) ≤ 8 = unfold eights in omega arith in
+    ap₂ (λ (x m : ℕ). eqb (bitAnd x m) 0) (number xs j) (number ms i)
+    ∙ clear-is (eights ms i) (eights xs j) (eights-lt ms i hm) (eights-lt xs j hx)
+    ∙ clear-all 8 (eights ms i) (eights xs j) size
+    ∙ allBelow-same (zeroAt (eights ms i) (eights xs j)) (λ k. eqb (bitAnd (getD xs (j + k) 0) (getD ms (i + k) 0)) 0) 8 (λ k h. ap₂ (λ (x m : ℕ). eqb (bitAnd x m) 0) (eights-at xs j k h) (eights-at ms i k h))

@@ -1,6 +1,7 @@
 pub mod Layout
 pub mod WellFormed
 pub mod Zeros
-pub mod Rules
+pub mod Matching
+pub mod Gone
 pub mod Made
 pub mod Reads

@@ -1,38 +1,36 @@
 -- The well-formed records (document 01, "The message table").
-use Prim.Native.Nat.{ℕ, zero, suc, _-_, _*_}
+use Prim.Native.Nat.{ℕ, _-_, _*_, _^_}
 use mathlib.Core.Bool.{Bool, true, cond, not, _&&_, _||_}
-use mathlib.Core.List.{List, [], _∷_}
-use lib.ListN.{drop, getD}
-use lib.Dec.{eqb, leb}
+use mathlib.Core.List.{List, [], _∷_, _++_}
+use lib.ListN.{drop, replicate}
+use lib.Dec.{eqb, leb, ltb}
 use Rattle.bits.specs.Bits.{allZero}
 use Rattle.bits.specs.Fields.{flat}
 use Rattle.content.specs.Packing.{groupBits}
-use Rattle.record.specs.Layout.{recordSize, byteAt, isFree, groupsIn, expiryIn, contentIn}
+use Rattle.record.specs.Layout.{recordSize, isFree, groupsIn, expiryIn, contentIn, classIn}
 
--- the least value of each byte of a used record: its mark, one group and a class
-unfoldable pub lows : List ℕ
-lows = 1 ∷ 1 ∷ 0 ∷ 0 ∷ 0 ∷ 0 ∷ 0 ∷ 0 ∷ 0 ∷ 0 ∷ 0 ∷ 0 ∷ 0 ∷ 0 ∷ 0 ∷ 0 ∷ 0 ∷ 0 ∷ 0 ∷ 0 ∷ 0 ∷ 0 ∷ 0 ∷ 0 ∷ 0 ∷ 0 ∷ 0 ∷ 0 ∷ 0 ∷ 0 ∷ 1 ∷ 0 ∷ []
+-- the bits of each byte of a used record: mark, groups, SID, LTN, location, event, direction, extent, diversion, duration; expiry and
+-- content; class, country
+unfoldable pub widths : List ℕ
+widths = (1 ∷ 3 ∷ 6 ∷ 6 ∷ 8 ∷ 8 ∷ 8 ∷ 3 ∷ 1 ∷ 3 ∷ 1 ∷ 3 ∷ []) ++ (replicate 18 8 ++ (6 ∷ 4 ∷ []))
 
--- the greatest: mark, groups, SID, LTN, location, event, direction, extent, diversion, duration, expiry, content, class, country
-unfoldable pub highs : List ℕ
-highs = 1 ∷ 5 ∷ 63 ∷ 63 ∷ 255 ∷ 255 ∷ 255 ∷ 7 ∷ 1 ∷ 7 ∷ 1 ∷ 7 ∷ 255 ∷ 255 ∷ 255 ∷ 255 ∷ 255 ∷ 255 ∷ 255 ∷ 255 ∷ 255 ∷ 255 ∷ 255 ∷ 255 ∷ 255 ∷ 255 ∷ 255 ∷ 255 ∷ 255 ∷ 255 ∷ 63 ∷ 15 ∷ []
+-- no byte has more than its bits
+unfoldable pub within : (ws xs : List ℕ) → Bool
+within [] xs = true
+within (w ∷ ws) [] = true
+within (w ∷ ws) (x ∷ xs) = ltb x (2 ^ w) && within ws xs
 
--- a byte of a record whose byte 0 is `used`: zero if the record is free, else from low to high
-unfoldable pub inRange : (used low high b : ℕ) → Bool
-inRange used low high b = cond (eqb used 0) (eqb b 0) (leb low b && leb b high)
-
--- byte j of it
-abbrev pub byteFits : ℕ → ℕ → ℕ → Bool
-byteFits used j b = inRange used (getD lows j 0) (getD highs j 0) b
-
--- a test holds of every number below n
-unfoldable pub allBelow : (ℕ → Bool) → ℕ → Bool
-allBelow p zero = true
-allBelow p (suc n) = allBelow p n && p n
-
--- every byte is in its range
+-- every byte is in its range; those of a free record have no bits
 unfoldable pub rangesFit : List ℕ → Bool
-rangesFit r = allBelow (λ j. byteFits (byteAt r 0) j (byteAt r j)) recordSize
+rangesFit r = within (cond (isFree r) (replicate recordSize 0) widths) r
+
+-- an expiry other than 0 and an update class
+unfoldable pub marked : List ℕ → Bool
+marked r = not (eqb (expiryIn r) 0) && not (eqb (classIn r) 0)
+
+-- one to five groups, and these
+unfoldable pub complete : List ℕ → Bool
+complete r = (leb 1 (groupsIn r) && leb (groupsIn r) 5) && marked r
 
 -- the content bits of its groups
 abbrev pub contentBits : List ℕ → ℕ
@@ -42,9 +40,9 @@ contentBits r = groupBits * (groupsIn r - 1)
 abbrev pub spareIn : List ℕ → List Bool
 spareIn r = drop (contentBits r) (flat 8 (contentIn r))
 
--- a used record ends at a minute other than 0, and its content is zero after the bits of its groups
+-- a used record is complete, and its content is zero after the bits of its groups
 unfoldable pub restFits : List ℕ → Bool
-restFits r = isFree r || not (eqb (expiryIn r) 0) && allZero (spareIn r)
+restFits r = isFree r || complete r && allZero (spareIn r)
 
 unfoldable pub wellFormed : List ℕ → Bool
 wellFormed r = rangesFit r && restFits r

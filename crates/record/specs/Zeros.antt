@@ -1,36 +1,41 @@
--- The bits that are zero in a well-formed record (document 01, "The message table"): those above the greatest value of each field, and the
--- content bits after those of the groups. A record is looked at in four parts of eight bytes, the first byte lowest.
-use Prim.Native.Nat.{ℕ, zero, suc, _-_, _*_, _^_}
-use mathlib.Core.List.{List, [], _∷_, _++_}
-use lib.ListN.{replicate}
+-- The bits that are zero in a well-formed record (document 01, "The message table"): those above the bits of each byte, and the content bits
+-- after those of the groups.
+use Prim.Native.Nat.{ℕ, zero, suc, _+_, _-_, _*_, _^_}
+use mathlib.Core.Bool.{Bool, cond, not, _&&_}
+use mathlib.Core.List.{List, [], _∷_, _++_, map}
+use lib.ListN.{take, drop, replicate}
+use lib.Dec.{eqb, leb}
+use lib.Bits.{bitAnd}
 use Rattle.content.specs.Packing.{groupBits}
-use Rattle.record.specs.Layout.{little}
+use Rattle.report.specs.Record.{contentBytes}
+use Rattle.record.specs.Layout.{recordSize, isFree, groupsIn, contentAt, eightAt}
+use Rattle.record.specs.WellFormed.{widths, complete}
 
 -- in n bytes, the bits after the first u
 unfoldable pub spares : (u n : ℕ) → List ℕ
 spares u zero = []
 spares u (suc n) = (2 ^ (8 - u) - 1) ∷ spares (u - 8) n
 
--- all bits of a part
-unfoldable pub ones : List ℕ
-ones = replicate 8 255
+-- in each byte, those above its bits
+unfoldable pub above : List ℕ
+above = map (λ w. 256 - 2 ^ w) widths
 
--- mark, groups, SID, LTN, location, event
-unfoldable pub front : List ℕ
-front = 0xFE ∷ 0xF8 ∷ 0xC0 ∷ 0xC0 ∷ 0 ∷ 0 ∷ 0 ∷ 0xF8 ∷ []
+-- in a used record of so many groups
+unfoldable pub zerosFor : ℕ → List ℕ
+zerosFor g = take contentAt above ++ (spares (groupBits * (g - 1)) contentBytes ++ drop contentBytes (drop contentAt above))
 
--- direction, extent, diversion, duration, expiry
-unfoldable pub middle : List ℕ
-middle = 0xFE ∷ 0xF8 ∷ 0xFE ∷ 0xF8 ∷ 0 ∷ 0 ∷ 0 ∷ 0 ∷ []
-
--- the last six bytes of the content, class, country
-unfoldable pub back : ℕ → List ℕ
-back u = spares (u - 8 - 8 - 8 - 8 - 8 - 8 - 8 - 8) 6 ++ (0xC0 ∷ 0xF0 ∷ [])
-
--- the four parts of a record of so many groups
-unfoldable pub rowZeros : ℕ → List ℕ
-rowZeros g = little front ∷ little middle ∷ little (spares (groupBits * (g - 1)) 8) ∷ little (back (groupBits * (g - 1))) ∷ []
-
--- a free record, and one to five groups
+-- in a free record, and in one of one to five groups
 unfoldable pub zeroBits : List ℕ
-zeroBits = replicate 4 (little ones) ++ (rowZeros 1 ++ (rowZeros 2 ++ (rowZeros 3 ++ (rowZeros 4 ++ rowZeros 5))))
+zeroBits = replicate recordSize 255 ++ (zerosFor 1 ++ (zerosFor 2 ++ (zerosFor 3 ++ (zerosFor 4 ++ zerosFor 5))))
+
+-- the row of a record: its groups, or that of the free records, which a used record that is not complete does not meet
+unfoldable pub rowOf : List ℕ → ℕ
+rowOf r = cond (not (isFree r) && complete r) (groupsIn r) 0
+
+-- where eight bytes begin: at byte j, or at the last eight of a record
+abbrev pub eightFrom : ℕ → ℕ
+eightFrom j = cond (leb j (recordSize - 8)) j (recordSize - 8)
+
+-- these eight, as one number, have zeros where the record's row of the rows zs says
+unfoldable pub bytesZero : (zs r : List ℕ) → ℕ → Bool
+bytesZero zs r j = eqb (bitAnd (eightAt r (eightFrom j)) (eightAt zs (rowOf r * recordSize + eightFrom j))) 0

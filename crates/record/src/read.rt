@@ -3,46 +3,45 @@ ghost use mathlib.Core.Path.{_≡_};
 ghost use Prim.Native.Nat.{_≤_};
 ghost use lib.ListN.{length, take};
 ghost use Rattle.bits.specs.Fields.{flat};
-ghost use Rattle.content.specs.Held.{bitsOf};
+ghost use Rattle.content.specs.Halves.{bitsOf};
 ghost use Rattle.content.specs.Packing.{longest};
 ghost use Rattle.report.specs.Read.{outcomeOf};
-ghost use Rattle.record.specs.Layout.{recordSize, groupsIn, headIn, serviceIn, contentIn};
+ghost use Rattle.record.specs.Layout.{recordSize, groupsIn, contentIn};
 ghost use Rattle.record.specs.Reads.{messageIn, readingOf, nothing};
 use crate::Answer;
 use crate::Reading;
 use crate::Record;
 use crate::Service;
-use crate::freeing::expiry;
-use crate::freeing::location;
+use crate::fields::expiry;
+use crate::fields::head;
+use crate::fields::service;
+use crate::test::fits;
 use bits::bytes::load;
 use content::content::Content;
 use report::Outcome;
 use report::Report;
-use word::Head;
 
-// The report of a record with its service and expiry, or that it is free. Bytes that are not one record's, or that give it no groups or
-// more than five, are refused (10), then content that does not read as items (7 or 8).
+// The report of a record with its service and expiry, or that it is free. Bytes that are not one well-formed record are refused (10), then
+// content that does not read as items (7 or 8).
 pub fn read(r: &[u8]) -> Reading
     ensures { λ x. ⌜ x ≡ readingOf (now (r .entry)) ⌝ }
 {
-    if r.len() != Record::SIZE {
+    if !fits(r) {
         return nothing(Answer::Refused(10));
     }
-    if r[0] == 0 {
+    if r[Record::MARK] == 0 {
         return nothing(Answer::Free);
-    }
-    if (r[1] < 1) | (5 < r[1]) {
-        return nothing(Answer::Refused(10));
     }
     let outcome = message(r);
     let answer = outcome.answer;
     let report = outcome.report;
+    let end = expiry(r);
     match answer {
         report::Answer::Read => Reading {
             answer: Answer::Read,
             report,
             service: service(r),
-            expiry: expiry(r),
+            expiry: end.0,
         },
         report::Answer::Refused(n) => nothing(Answer::Refused(n)),
     }
@@ -68,38 +67,15 @@ fn message(r: &[u8]) -> Outcome
     requires { ⌜ (length (now r) ≡ recordSize) × (1 ≤ groupsIn (now r)) × (groupsIn (now r) ≤ 5) ⌝ }
     ensures { λ x. ⌜ x ≡ outcomeOf (messageIn (now (r .entry))) ⌝ }
 {
-    let groups = r[1] as usize;
+    let groups = r[Record::GROUPS] as usize;
     let head = head(r);
     if groups == 1 {
         Outcome {
             answer: report::Answer::Read,
-            report: Report::single(r[11], r[10], head),
+            report: Report::single(r[Record::DURATION], r[Record::DIVERSION], head),
         }
     } else {
         Report::multi(head, content(r), Content::GROUP * (groups - 1))
-    }
-}
-
-fn service(r: &[u8]) -> Service
-    requires { ⌜ length (now r) ≡ recordSize ⌝ }
-    ensures { λ s. ⌜ s ≡ serviceIn (now (r .entry)) ⌝ }
-{
-    Service {
-        country: r[31],
-        ltn: r[3],
-        sid: r[2],
-    }
-}
-
-fn head(r: &[u8]) -> Head
-    requires { ⌜ length (now r) ≡ recordSize ⌝ }
-    ensures { λ h. ⌜ h ≡ headIn (now (r .entry)) ⌝ }
-{
-    Head {
-        direction: r[8],
-        extent: r[9],
-        event: r[6] as u16 + 0x100 * (r[7] as u16),
-        location: location(r),
     }
 }
 

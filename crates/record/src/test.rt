@@ -1,80 +1,92 @@
-// What the test of a record looks at.
+// The test of a record's bytes.
 ghost use mathlib.Core.Path.{_≡_};
-ghost use mathlib.Core.Bool.{cond, not, _&&_, _||_};
+ghost use mathlib.Core.Bool.{_&&_};
+ghost use Prim.Native.Nat.{_+_, _≤_};
 ghost use lib.ListN.{length};
-ghost use lib.Dec.{eqb, ltb};
-ghost use Rattle.record.specs.Layout.{isRecord, little, expiryIn, classIn};
-ghost use Rattle.record.specs.Zeros.{zeroBits};
+ghost use Rattle.record.specs.Layout.{recordSize, isRecord, eightAt};
+ghost use Rattle.record.specs.WellFormed.{wellFormed};
+ghost use Rattle.record.specs.Zeros.{zeroBits, rowOf, eightFrom, bytesZero};
 use crate::Record;
-use crate::freeing::expiry;
-use crate::freeing::four;
+use crate::fields::expiry;
+use crate::fields::four;
 
 impl Record {
-    // A record is looked at in four parts of eight bytes.
-    pub const PART: usize = 8;
-
-    pub const PARTS: usize = 4;
+    // The bytes that are tested at a time.
+    pub const STEP: usize = 8;
 }
 
-// The bits that are zero in each part, its first byte lowest: a row for free records, and one for each number of groups.
-pub fn zero_bits() -> [u64; 24]
-    ensures { λ r. ⌜ r ≡ zeroBits ⌝ }
+// Where the last of them begin.
+const LAST: usize = Record::SIZE - Record::STEP;
+
+// The bits that are zero in each byte: a row for free records, and one for each number of groups.
+pub fn zero_bits() -> [u8; 6 * Record::SIZE]
+    ensures { λ zs. ⌜ zs ≡ zeroBits ⌝ }
 {
-    [
-        0xFFFF_FFFF_FFFF_FFFF,
-        0xFFFF_FFFF_FFFF_FFFF,
-        0xFFFF_FFFF_FFFF_FFFF,
-        0xFFFF_FFFF_FFFF_FFFF,
-        0xF800_0000_C0C0_F8FE,
-        0x0000_0000_F8FE_F8FE,
-        0xFFFF_FFFF_FFFF_FFFF,
-        0xF0C0_FFFF_FFFF_FFFF,
-        0xF800_0000_C0C0_F8FE,
-        0x0000_0000_F8FE_F8FE,
-        0xFFFF_FFFF_0F00_0000,
-        0xF0C0_FFFF_FFFF_FFFF,
-        0xF800_0000_C0C0_F8FE,
-        0x0000_0000_F8FE_F8FE,
-        0xFF00_0000_0000_0000,
-        0xF0C0_FFFF_FFFF_FFFF,
-        0xF800_0000_C0C0_F8FE,
-        0x0000_0000_F8FE_F8FE,
-        0,
-        0xF0C0_FFFF_FF0F_0000,
-        0xF800_0000_C0C0_F8FE,
-        0x0000_0000_F8FE_F8FE,
-        0,
-        0xF0C0_0000_0000_0000,
-    ]
+    *b"\xFF\xFF\xFF\xFF\xFF\xFF\xFF\xFF\xFF\xFF\xFF\xFF\xFF\xFF\xFF\xFF\xFF\xFF\xFF\xFF\xFF\xFF\xFF\xFF\xFF\xFF\xFF\xFF\xFF\xFF\xFF\xFF\
+       \xFE\xF8\xC0\xC0\0\0\0\xF8\xFE\xF8\xFE\xF8\0\0\0\0\xFF\xFF\xFF\xFF\xFF\xFF\xFF\xFF\xFF\xFF\xFF\xFF\xFF\xFF\xC0\xF0\
+       \xFE\xF8\xC0\xC0\0\0\0\xF8\xFE\xF8\xFE\xF8\0\0\0\0\0\0\0\x0F\xFF\xFF\xFF\xFF\xFF\xFF\xFF\xFF\xFF\xFF\xC0\xF0\
+       \xFE\xF8\xC0\xC0\0\0\0\xF8\xFE\xF8\xFE\xF8\0\0\0\0\0\0\0\0\0\0\0\xFF\xFF\xFF\xFF\xFF\xFF\xFF\xC0\xF0\
+       \xFE\xF8\xC0\xC0\0\0\0\xF8\xFE\xF8\xFE\xF8\0\0\0\0\0\0\0\0\0\0\0\0\0\0\x0F\xFF\xFF\xFF\xC0\xF0\
+       \xFE\xF8\xC0\xC0\0\0\0\xF8\xFE\xF8\xFE\xF8\0\0\0\0\0\0\0\0\0\0\0\0\0\0\0\0\0\0\xC0\xF0"
 }
 
-// The row of zero bits for a record that begins with these two bytes: its groups, or 0 if it is free or has more than five.
-pub fn row_of(mark: u8, groups: u8) -> usize
-    ensures { λ n. ⌜ n ≡ cond (eqb mark 0 || ltb 5 groups) 0 groups ⌝ }
-{
-    if (mark == 0) | (5 < groups) {
-        0
-    } else {
-        groups as usize
-    }
-}
-
-// The number that the eight bytes of a part are, the first byte lowest; 0 for any other number of bytes.
-pub fn number_of(part: &[u8]) -> u64
-    ensures { λ n. ⌜ n ≡ cond (eqb (length (now (part .entry))) 8) (little (now (part .entry))) 0 ⌝ }
-{
-    if part.len() != Record::PART {
-        return 0;
-    }
-    four(part, 0) as u64 + 0x1_0000_0000 * four(part, 4) as u64
-}
-
-// Whether the bytes are one record's that ends at a minute other than 0 and has an update class.
-pub fn ends_with_class(r: &[u8]) -> bool
-    ensures { λ b. ⌜ b ≡ isRecord (now (r .entry)) && (not (eqb (expiryIn (now (r .entry))) 0) && not (eqb (classIn (now (r .entry))) 0)) ⌝ }
+// Whether the bytes are one well-formed record.
+pub fn fits(r: &[u8]) -> bool
+    ensures { λ b. ⌜ b ≡ isRecord (now (r .entry)) && wellFormed (now (r .entry)) ⌝ }
 {
     if r.len() != Record::SIZE {
         return false;
     }
-    (expiry(r) != 0) & (r[30] != 0)
+    let zeros = zero_bits();
+    let mut j = 0;
+    while j < Record::SIZE {
+        if !bytes_fit(r, &zeros, j) {
+            return false;
+        }
+        j += Record::STEP;
+    }
+    true
+}
+
+// Whether the eight bytes from byte j on, or the last eight, have zeros where their record's row of `zeros` says. With `zero_bits` a record
+// is well-formed if all its bytes have. Bytes that are not one record's have not.
+pub fn bytes_fit(r: &[u8], zeros: &[u8; 6 * Record::SIZE], j: usize) -> bool
+    ensures { λ b. ⌜ b ≡ isRecord (now (r .entry)) && bytesZero (now (zeros .entry)) (now (r .entry)) j ⌝ }
+{
+    if r.len() != Record::SIZE {
+        return false;
+    }
+    let at = eight_from(j);
+    let row = row_of(r) * Record::SIZE;
+    eight(r, at) & eight(zeros, row + at) == 0
+}
+
+fn eight_from(j: usize) -> usize
+    ensures { λ n. ⌜ n ≡ eightFrom j ⌝ }
+{
+    if j <= LAST { j } else { LAST }
+}
+
+// The row of a record: its groups; 0 if it is free, and if its groups are not one to five or it has no expiry or no class.
+fn row_of(r: &[u8]) -> usize
+    requires { ⌜ length (now r) ≡ recordSize ⌝ }
+    ensures { λ n. ⌜ n ≡ rowOf (now (r .entry)) ⌝ }
+{
+    let groups = r[Record::GROUPS];
+    let end = expiry(r);
+    if (r[Record::MARK] != 0)
+        & (((1 <= groups) & (groups <= 5)) & ((end.0 != 0) & (r[Record::CLASS] != 0)))
+    {
+        groups as usize
+    } else {
+        0
+    }
+}
+
+// The number that eight bytes are, the first one lowest.
+fn eight(r: &[u8], at: usize) -> u64
+    requires { ⌜ at + 8 ≤ length (now r) ⌝ }
+    ensures { λ n. ⌜ n ≡ eightAt (now (r .entry)) at ⌝ }
+{
+    four(r, at) as u64 + 0x1_0000_0000 * four(r, at + 4) as u64
 }

@@ -1,94 +1,124 @@
--- What is known of a report that is not refused, and that its record is well-formed.
-use Prim.Native.Nat.{ℕ, _+_, _*_, _≤_, _<_}
+-- A take that nothing refuses, by the kind of its event.
+use Prim.Native.Nat.{ℕ, _/_, _%_, _<_}
 use native.Mathlib.Omega.{arith}
-use mathlib.Core.Path.{_≡_, refl, sym, ap₂, _∙_}
+use mathlib.Core.Path.{_≡_, refl, sym, ap, subst, _∙_}
 use mathlib.Core.Bool.{Bool, true, false, not, _&&_, _||_}
 use mathlib.Core.List.{List}
 use lib.IntN.{ℤ}
 use lib.ListN.{length}
-use lib.Dec.{leb, ltb, eqb}
-use borrow.Author.Tests.{leb-true, eqb-true, eqb-false, ne-eqb}
+use lib.Dec.{eqb}
+use borrow.Author.Tests.{eqb-true, eqb-false, eq-eqb, leb-false, not-true}
 use Rattle.bits.proofs.Choice.{and-left, and-right, chosen, passed-over}
-use Rattle.clock.specs.Time.{localOf, expiryOf, offsetFits}
-use Rattle.clock.proofs.Midnight.{ahead, until-midnight, after-life}
-use Rattle.report.specs.Fits.{reportFits}
-use Rattle.record.specs.WellFormed.{wellFormed}
-use Rattle.record.proofs.Reports.{report-ranges}
-use Rattle.record.proofs.MadeFits.{Storable, made-fits}
+use Rattle.record.specs.Layout.{recordSize, freeRecord, isFree}
+use Rattle.record.specs.Matching.{matching}
+use Rattle.record.specs.Gone.{expired, either}
+use Rattle.record.specs.Made.{recordOf}
+use Rattle.record.proofs.MadeFields.{length-made}
 use Rattle.table.specs.declared.Arrival.{Arrival}
-use Rattle.table.specs.Lent.{classOf, kindOf, typeOf, entryFits}
-use Rattle.table.specs.Take.{lentFit, askedFit, laterRefusal, entryOf, lifeOf, recordFor, refusalOf}
-use Rattle.table.proofs.Lents.{lent-events, lent-entry, lent-lives, life-short, minute-le, expiry-fits}
-use Rattle.table.proofs.Takes.{asked-report}
+use Rattle.table.specs.Catalogue.{kindFor, classFor}
+use Rattle.table.specs.Steps.{afterMatching, placeIn, noRoom, afterStoring}
+use Rattle.table.specs.Take.{keyOf, matches, matchesOf, expiryFor, recordFor, checkRefusal, takeRefusal, takenTable, takeTable}
+use Rattle.table.proofs.Counts.{clash}
+use Rattle.table.proofs.Freeing.{length-both, whole-both}
+use Rattle.table.proofs.Lents.{lent-whole}
+use Rattle.table.proofs.Checked.{Checked, checked}
+use Rattle.table.proofs.Takes.{refused-take, accepted-take}
 
--- an ordinary event has an update class
-pub ordinary-class : (x : ℕ) → entryFits x ≡ true → kindOf x ≡ 1 → 1 ≤ classOf x
-unfolding entryFits
-ordinary-class x h e = by-test (eqb (classOf x) 0) refl (and-right (ltb x 512) _ h)
-  where
-    by-test : (b : Bool) → eqb (classOf x) 0 ≡ b → b && (eqb (kindOf x) 0 || eqb (kindOf x) 3) || not b && (eqb (kindOf x) 1 || eqb (kindOf x) 2) ≡ true → 1 ≤ classOf x
-    by-test true z k =
-        let no : eqb (kindOf x) 0 ≡ false = ne-eqb (kindOf x) 0 (λ y. omega arith) in
-        let nor : eqb (kindOf x) 3 ≡ false = ne-eqb (kindOf x) 3 (λ y. omega arith) in
-        let f : false ≡ true = sym (ap₂ (λ (u v : Bool). (u || v) || false) no nor) ∙ k in
-        let q : _≡_ {A = ℕ} 0 1 = cc in
-        absurd (omega arith)
-    by-test false z k = let some = eqb-false (classOf x) 0 z in omega arith
+-- a test that holds of used records only
+abbrev pub OnlyUsed : (List ℕ → Bool) → Type 0
+OnlyUsed p = (r : List ℕ) → p r ≡ true → isFree r ≡ false
 
--- what ends, ends after minute 0
-pub expiry-some : (minute : ℕ) (lto : ℤ) (life : ℕ) → 1 ≤ expiryOf minute lto life
-expiry-some minute lto life = by-test (eqb life 0) refl
+pub expired-used : (minute : ℕ) → OnlyUsed (expired minute)
+unfolding expired
+expired-used minute r h = not-true (isFree r) (and-left (not (isFree r)) _ h)
+
+pub matches-used : (c : List ℕ) (a : Arrival) → OnlyUsed (matchesOf c a)
+unfolding matches matching
+matches-used c a r h = not-true (isFree r) (and-left (not (isFree r)) _ (and-right (eqb (kindFor c (a .report)) 1 || eqb (kindFor c (a .report)) 2) (matching (keyOf c a) r) h))
+
+pub either-used : (p q : List ℕ → Bool) → OnlyUsed p → OnlyUsed q → OnlyUsed (either p q)
+either-used p q f g r h = by-first (p r) refl
   where
-    by-test : (b : Bool) → eqb life 0 ≡ b → 1 ≤ expiryOf minute lto life
-    by-test true e = omega (arith, until-midnight minute lto life (eqb-true life 0 e), ahead (localOf minute lto))
-    by-test false e = let some = eqb-false life 0 e in omega (arith, after-life minute lto life some)
+    second : (a b : Bool) → a ≡ false → a || b ≡ true → b ≡ true
+    second true b e k = clash refl e
+    second false b e k = k
+
+    by-first : (b : Bool) → p r ≡ b → isFree r ≡ false
+    by-first true e = f r e
+    by-first false e = g r (second (p r) (q r) e h)
+
+-- so of no free record
+pub used-never : (q : List ℕ → Bool) → OnlyUsed q → q freeRecord ≡ false
+used-never q only = by-test (q freeRecord) refl
+  where
+    by-test : (b : Bool) → q freeRecord ≡ b → q freeRecord ≡ false
+    by-test true e = clash refl (only freeRecord e)
+    by-test false e = e
 
 module _ (t c l : List ℕ) (last : ℕ) (a : Arrival) (lto : ℤ) where
-  -- no refusal but that for want of room
-  pub record Accepted : Type 0 where
-    pub lent : lentFit t c l ≡ true
-    pub asked : askedFit (a .report) (a .service) lto ≡ true
-    pub fine : laterRefusal last (a .minute .0) (a .report .head .location) (entryOf c (a .report)) ≡ 0
+  abbrev pub minute : ℕ
+  minute = a .minute .0
 
-  pub accepted : refusalOf t c l last a lto ≡ 0 → Accepted
-  unfolding refusalOf
-  accepted e = by-lent (lentFit t c l) refl
+  abbrev pub kind : ℕ
+  kind = kindFor c (a .report)
+
+  abbrev pub made : List ℕ
+  made = recordFor c l a lto
+
+  pub matches-never : matchesOf c a freeRecord ≡ false
+  matches-never = used-never (matchesOf c a) (matches-used c a)
+
+  pub made-used : isFree made ≡ false
+  unfolding recordOf
+  made-used = refl
+
+  pub made-sized : length made ≡ recordSize
+  made-sized = length-made (a .report) (a .service) (classFor c (a .report)) (expiryFor c l a lto)
+
+  -- past the checks, and with room where it is needed
+  pub passed : takeRefusal t c l last a lto ≡ 0 → (checkRefusal t c l last a lto ≡ 0) × (eqb kind 1 && noRoom minute (matchesOf c a) t ≡ false)
+  unfolding takeRefusal
+  passed e = by-check (eqb (checkRefusal t c l last a lto) 0) refl
     where
-      by-asked : (b : Bool) → lentFit t c l ≡ true → askedFit (a .report) (a .service) lto ≡ b → Accepted
-      by-asked true f g = record { lent = f; asked = g; fine = sym (chosen _ _ _ f ∙ chosen _ _ _ g) ∙ e }
-      by-asked false f g = absurd (let z : 9 ≡ 0 = sym (chosen _ _ _ f ∙ passed-over _ _ _ g) ∙ e in omega arith)
+      by-room : eqb (checkRefusal t c l last a lto) 0 ≡ true → (b : Bool) → eqb kind 1 && noRoom minute (matchesOf c a) t ≡ b → eqb kind 1 && noRoom minute (matchesOf c a) t ≡ false
+      by-room f true g = absurd (let z : 14 ≡ 0 = sym (chosen _ _ _ f ∙ chosen _ _ _ g) ∙ e in omega arith)
+      by-room f false g = g
 
-      by-lent : (b : Bool) → lentFit t c l ≡ b → Accepted
-      by-lent true f = by-asked (askedFit (a .report) (a .service) lto) f refl
-      by-lent false f = absurd (let z : 10 ≡ 0 = sym (passed-over _ _ _ f) ∙ e in omega arith)
+      by-check : (b : Bool) → eqb (checkRefusal t c l last a lto) 0 ≡ b → (checkRefusal t c l last a lto ≡ 0) × (eqb kind 1 && noRoom minute (matchesOf c a) t ≡ false)
+      by-check true f = (eqb-true (checkRefusal t c l last a lto) 0 f, by-room f (eqb kind 1 && noRoom minute (matchesOf c a) t) refl)
+      by-check false f = absurd (eqb-false (checkRefusal t c l last a lto) 0 f (sym (passed-over _ _ _ f) ∙ e))
 
-  module _ (ok : Accepted) where
-    abbrev entry : ℕ
-    entry = entryOf c (a .report)
+  module _ (fine : takeRefusal t c l last a lto ≡ 0) where
+    pub ok : Checked t c l last a lto
+    ok = checked t c l last a lto (passed fine .0)
 
-    pub storable : kindOf entry ≡ 1 → Storable (a .report) (a .service) (classOf entry) (expiryOf (a .minute .0) lto (lifeOf c l (a .report)))
-    unfolding askedFit
-    storable kind =
-        let r = a .report in
-        let s = a .service in
-        let fit = asked-report r s lto (ok .asked) in
-        let ranges = report-ranges r fit in
-        let places = leb (s .ltn) 63 && leb (s .sid) 63 in
-        let services = leb (s .country) 15 && places in
-        let in-service = and-left services (offsetFits lto) (and-right (reportFits r) (services && offsetFits lto) (ok .asked)) in
-        let in-places = and-right (leb (s .country) 15) places in-service in
-        let event : r .head .event < length c = omega (arith, ranges .head-in .event-lt, lent-events t c l (ok .lent)) in
-        let place : 8 * typeOf entry + r .duration < length l = omega (arith, ranges .duration-lt, lent-lives t c l (ok .lent)) in
-        record {
-          report-fits = fit;
-          country-le = leb-true (s .country) 15 (and-left (leb (s .country) 15) places in-service);
-          ltn-le = leb-true (s .ltn) 63 (and-left (leb (s .ltn) 63) (leb (s .sid) 63) in-places);
-          sid-le = leb-true (s .sid) 63 (and-right (leb (s .ltn) 63) (leb (s .sid) 63) in-places);
-          class-ge = ordinary-class entry (lent-entry t c l (ok .lent) (r .head .event) event) kind;
-          class-le = omega arith;
-          expiry-ge = expiry-some (a .minute .0) lto (lifeOf c l r);
-          expiry-lt = expiry-fits (a .minute .0) lto (lifeOf c l r) (minute-le last (a .minute .0) (r .head .location) entry (ok .fine)) (life-short t c l (ok .lent) (8 * typeOf entry + r .duration) place);
-        }
+    pub whole : length t % recordSize ≡ 0
+    whole = lent-whole t c l (ok .lent)
 
-    pub record-fits : kindOf entry ≡ 1 → wellFormed (recordFor c l a lto) ≡ true
-    record-fits kind = made-fits (a .report) (a .service) (classOf entry) (expiryOf (a .minute .0) lto (lifeOf c l (a .report))) (storable kind)
+    pub inside : kind ≡ 1 → placeIn minute (matchesOf c a) t < length t / recordSize
+    inside is-1 =
+        let off : noRoom minute (matchesOf c a) t ≡ false = sym (ap (λ (b : Bool). b && noRoom minute (matchesOf c a) t) (eq-eqb kind 1 is-1)) ∙ passed fine .1 in
+        leb-false (length t / recordSize) (placeIn minute (matchesOf c a) t) off
+
+    pub both-whole : length (afterMatching minute (matchesOf c a) t) % recordSize ≡ 0
+    both-whole = whole-both minute (matchesOf c a) matches-never t whole
+
+    pub both-inside : kind ≡ 1 → placeIn minute (matchesOf c a) t < length (afterMatching minute (matchesOf c a) t) / recordSize
+    both-inside is-1 = subst (λ (n : ℕ). placeIn minute (matchesOf c a) t < n / recordSize) (sym (length-both minute (matchesOf c a) matches-never t whole)) (inside is-1)
+
+  -- what holds of the table at entry and of the tables that a take may leave, holds of the table afterwards
+  pub after-take :
+      (P : List ℕ → Type 0) → P t
+      → (takeRefusal t c l last a lto ≡ 0 → P (afterMatching minute (matchesOf c a) t))
+      → (takeRefusal t c l last a lto ≡ 0 → kind ≡ 1 → P (afterStoring minute (matchesOf c a) made t))
+      → P (takeTable t c l last a lto)
+  unfolding takenTable
+  after-take P here freed stored = by-refusal (eqb (takeRefusal t c l last a lto) 0) refl
+    where
+      by-kind : (b : Bool) → takeRefusal t c l last a lto ≡ 0 → eqb kind 1 ≡ b → P (takeTable t c l last a lto)
+      by-kind true fine e = subst P (sym (chosen _ _ _ e) ∙ accepted-take t c l last a lto fine .1) (stored fine (eqb-true kind 1 e))
+      by-kind false fine e = subst P (sym (passed-over _ _ _ e) ∙ accepted-take t c l last a lto fine .1) (freed fine)
+
+      by-refusal : (b : Bool) → eqb (takeRefusal t c l last a lto) 0 ≡ b → P (takeTable t c l last a lto)
+      by-refusal true e = by-kind (eqb kind 1) (eqb-true (takeRefusal t c l last a lto) 0 e) refl
+      by-refusal false e = subst P (refused-take t c l last a lto (takeRefusal t c l last a lto) refl (eqb-false (takeRefusal t c l last a lto) 0 e) .1) here

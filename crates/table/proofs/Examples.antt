@@ -12,26 +12,29 @@ use Rattle.content.specs.Packing.{zeroItem}
 use Rattle.report.specs.Report.{singleReport}
 use Rattle.report.specs.Fits.{singleFits, fitsBy, reportFits}
 use Rattle.record.specs.Layout.{freeRecord}
-use Rattle.record.specs.Rules.{falls, freedIf, sameKey, sameService}
+use Rattle.record.specs.Matching.{matching}
+use Rattle.record.specs.Gone.{expired, freedIf}
 use Rattle.record.specs.Made.{expiryBytes}
-use Rattle.record.specs.WellFormed.{lows, highs, inRange, allBelow, rangesFit, restFits, wellFormed}
+use Rattle.record.specs.WellFormed.{widths, within, rangesFit, marked, complete, restFits, wellFormed}
 use Rattle.table.specs.declared.Arrival.{Arrival}
 use Rattle.table.specs.declared.Answer.the-variants.{Freed, Stored, Refused}
-use Rattle.table.specs.Records.{chunks, records, joined, allOf, countIf, firstOf, freeWhere, countWhere, lowestFree}
-use Rattle.table.specs.Lent.{sized, tableFits, entryFits, catalogueFits, livesFit}
-use Rattle.table.specs.Expire.{step, minuteUnfit, expireStep, expireTable}
-use Rattle.table.specs.Take.{lentFit, askedFit, laterRefusal, afterBoth, matchedIn, full, ordinaryStep, stepBy, refusalOf, takeStep}
+use Rattle.table.specs.Records.{chunks, records, joined, allOf, countIf, firstOf, over, countWhere, lowestFree}
+use Rattle.table.specs.Lent.{sized, tableFits}
+use Rattle.table.specs.Catalogue.{entryFits, catalogueFits, livesFit}
+use Rattle.table.specs.Steps.{step, afterMatching, matchedIn, placeIn}
+use Rattle.table.specs.Expire.{expireRefusal, expireStep, expireTable}
+use Rattle.table.specs.Take.{matches, lentFit, askedFit, laterRefusal, checkRefusal, takeRefusal, takenStep, takeStep}
 
 -- a table of one record, which ends at minute 100
 abbrev pub until-100 : List ℕ
 until-100 = (1 ∷ 1 ∷ replicate 10 0) ++ (expiryBytes 100 ++ (replicate 14 0 ++ (1 ∷ 0 ∷ [])))
 
 pub stays-at-99 : (expireStep until-100 0 99 ≡ step 99 (Freed 0 0)) × (expireTable until-100 0 99 ≡ until-100)
-unfolding bit bits flat allZero num lows highs inRange allBelow rangesFit restFits wellFormed falls freedIf chunks records joined allOf countIf freeWhere countWhere sized tableFits minuteUnfit expireStep expireTable
+unfolding bit bits flat allZero num widths within rangesFit marked complete restFits wellFormed expired freedIf chunks records joined allOf countIf over countWhere sized tableFits expireRefusal expireStep expireTable
 stays-at-99 = (refl, refl)
 
 pub goes-at-100 : (expireStep until-100 0 100 ≡ step 100 (Freed 1 0)) × (expireTable until-100 0 100 ≡ freeRecord)
-unfolding bit bits flat allZero num lows highs inRange allBelow rangesFit restFits wellFormed falls freedIf chunks records joined allOf countIf freeWhere countWhere sized tableFits minuteUnfit expireStep expireTable
+unfolding bit bits flat allZero num widths within rangesFit marked complete restFits wellFormed expired freedIf chunks records joined allOf countIf over countWhere sized tableFits expireRefusal expireStep expireTable
 goes-at-100 = (refl, refl)
 
 -- a single-group report at a location, at minute 0
@@ -46,9 +49,9 @@ abbrev pub lives : List ℕ
 lives = replicate 16 60
 
 pub own-location : takeStep freeRecord catalogue lives 0 (arrival 0xFBFF) (pos 0) ≡ step 0 (Stored 0 0 0)
-unfolding bit bits flat allZero num lows highs inRange allBelow rangesFit restFits wellFormed falls sameKey sameService freedIf chunks records joined allOf countIf firstOf freeWhere countWhere lowestFree sized tableFits entryFits catalogueFits livesFit fits offsetFits filled wellPlaced allZeroItems zeroItem singleFits fitsBy reportFits lentFit askedFit minuteUnfit laterRefusal afterBoth matchedIn full ordinaryStep stepBy refusalOf takeStep
+unfolding bit bits flat allZero num widths within rangesFit marked complete restFits wellFormed expired matching freedIf chunks records joined allOf countIf firstOf over countWhere lowestFree sized tableFits entryFits catalogueFits livesFit fits offsetFits filled wellPlaced allZeroItems zeroItem singleFits fitsBy reportFits lentFit askedFit laterRefusal checkRefusal matches afterMatching matchedIn placeIn takeRefusal takenStep takeStep
 own-location = refl
 
 pub foreign-location : takeStep freeRecord catalogue lives 0 (arrival 0xFC00) (pos 0) ≡ step 0 (Refused 12)
-unfolding bit bits flat allZero num lows highs inRange allBelow rangesFit restFits wellFormed falls sameKey sameService freedIf chunks records joined allOf countIf firstOf freeWhere countWhere lowestFree sized tableFits entryFits catalogueFits livesFit fits offsetFits filled wellPlaced allZeroItems zeroItem singleFits fitsBy reportFits lentFit askedFit minuteUnfit laterRefusal afterBoth matchedIn full ordinaryStep stepBy refusalOf takeStep
+unfolding bit bits flat allZero num widths within rangesFit marked complete restFits wellFormed expired matching freedIf chunks records joined allOf countIf firstOf over countWhere lowestFree sized tableFits entryFits catalogueFits livesFit fits offsetFits filled wellPlaced allZeroItems zeroItem singleFits fitsBy reportFits lentFit askedFit laterRefusal checkRefusal matches afterMatching matchedIn placeIn takeRefusal takenStep takeStep
 foreign-location = refl

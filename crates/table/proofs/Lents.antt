@@ -2,22 +2,19 @@
 use Prim.Native.Nat.{ℕ, zero, suc, _+_, _*_, _%_, _≤_, _<_}
 use native.Mathlib.Omega.{arith}
 use mathlib.Core.Path.{_≡_, refl, sym, ap, _∙_}
-use mathlib.Core.Bool.{Bool, true, false, _&&_, _||_}
+use mathlib.Core.Bool.{Bool, true, _&&_}
 use mathlib.Core.List.{List, [], _∷_}
-use lib.IntN.{ℤ}
 use lib.ListN.{length, take, drop, getD}
 use lib.Seq.{drop-drop}
-use lib.Dec.{leb, ltb, eqb}
-use borrow.Author.Tests.{eqb-true, eqb-false, leb-true, ltb-false}
-use Rattle.bits.proofs.Choice.{and-left, and-right, chosen}
-use Rattle.clock.specs.Time.{largest, localOf, expiryOf}
-use Rattle.clock.proofs.Midnight.{ahead, until-midnight, after-life}
+use lib.Dec.{leb, eqb}
+use borrow.Author.Tests.{eqb-true, leb-true}
+use Rattle.bits.proofs.Choice.{and-left, and-right}
 use Rattle.record.specs.Layout.{recordSize, freeRecord}
 use Rattle.record.specs.WellFormed.{wellFormed}
 use Rattle.table.specs.Records.{chunks, records, allOf}
-use Rattle.table.specs.Lent.{sized, tableFits, entryFits, catalogueFits, livesFit}
-use Rattle.table.specs.Expire.{minuteUnfit}
-use Rattle.table.specs.Take.{lentFit, laterRefusal}
+use Rattle.table.specs.Lent.{sized, tableFits}
+use Rattle.table.specs.Catalogue.{entryFits, catalogueFits, livesFit}
+use Rattle.table.specs.Take.{lentFit}
 use Rattle.table.proofs.Passes.{nth}
 
 pub table-whole : (t : List ℕ) → tableFits t ≡ true → length t % recordSize ≡ 0
@@ -81,24 +78,3 @@ module _ (t c l : List ℕ) (h : lentFit t c l ≡ true) where
 
   pub life-short : (i : ℕ) → i < length l → getD l i 0 ≤ 10080
   life-short i k = leb-true (getD l i 0) 10080 (entry-at (λ x. leb x 10080) l i (and-right (eqb (length l) 16) (allOf (λ x. leb x 10080) l) lent-lives-fit) k)
-
--- an accepted minute is not too large
-pub minute-le : (last minute location entry : ℕ) → laterRefusal last minute location entry ≡ 0 → minute ≤ largest
-unfolding laterRefusal minuteUnfit
-minute-le last minute location entry h = by-test (minuteUnfit last minute) refl
-  where
-    or-right : (a b : Bool) → a || b ≡ false → b ≡ false
-    or-right true b e = let z : true ≡ false = e in cc
-    or-right false b e = e
-
-    by-test : (b : Bool) → minuteUnfit last minute ≡ b → minute ≤ largest
-    by-test true e = absurd (let z : 13 ≡ 0 = sym (chosen _ _ _ e) ∙ h in omega arith)
-    by-test false e = ltb-false largest minute (or-right (ltb minute last) (ltb largest minute) (unfold minuteUnfit in e))
-
--- and what is stored ends at a minute of recordSize bits
-pub expiry-fits : (minute : ℕ) (lto : ℤ) (life : ℕ) → minute ≤ largest → life ≤ 10080 → expiryOf minute lto life < 4294967296
-expiry-fits minute lto life m h = by-test (eqb life 0) refl
-  where
-    by-test : (b : Bool) → eqb life 0 ≡ b → expiryOf minute lto life < 4294967296
-    by-test true e = omega (arith, until-midnight minute lto life (eqb-true life 0 e), ahead (localOf minute lto))
-    by-test false e = omega (arith, after-life minute lto life (eqb-false life 0 e))

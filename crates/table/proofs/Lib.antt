@@ -1,13 +1,12 @@
 pub mod Passes
-pub mod Bytes
+pub mod Counts
 pub mod Sweeps
 pub mod Storing
+pub mod Freeing
 pub mod Lents
+pub mod Checked
 pub mod Takes
-pub mod Changes
-pub mod Gone
-pub mod Unfreed
 pub mod Accepted
-pub mod Taken
+pub mod Demand2
 pub mod Theorems
 pub mod Examples

@@ -1,117 +1,141 @@
--- The ways out of taking a report.
-use Prim.Native.Nat.{ℕ, _/_, _≤_, _<_}
-use mathlib.Core.Path.{_≡_, sym, ap, _∙_}
-use mathlib.Core.Bool.{true, false, _&&_}
+-- The ways out of taking a report and of expiry alone.
+use Prim.Native.Nat.{ℕ, _%_}
+use native.Mathlib.Omega.{arith}
+use mathlib.Core.Path.{_≡_, refl, sym, ap, ap₂, _∙_}
+use mathlib.Core.Bool.{Bool, true, false, cond, _&&_, _||_}
 use mathlib.Core.List.{List}
 use lib.IntN.{ℤ}
-use native.Mathlib.Omega.{arith}
 use lib.ListN.{length}
-use lib.Dec.{leb}
-use borrow.Author.Tests.{eq-eqb, ne-eqb, le-leb, lt-leb}
-use Rattle.bits.proofs.Choice.{and-left, chosen, passed-over}
-use Rattle.clock.specs.Time.{offsetFits}
-use Rattle.report.specs.declared.Report.{Report}
-use Rattle.report.specs.Fits.{reportFits}
-use Rattle.record.specs.declared.Service.{Service}
+use lib.Dec.{eqb}
+use borrow.Author.Tests.{eq-eqb, ne-eqb}
+use Rattle.bits.proofs.Choice.{chosen, passed-over}
 use Rattle.record.specs.declared.Key.{Key}
-use Rattle.record.specs.Layout.{recordSize}
+use Rattle.record.specs.Layout.{recordSize, freeRecord}
+use Rattle.record.specs.Matching.{matching}
 use Rattle.table.specs.declared.Arrival.{Arrival}
-use Rattle.table.specs.declared.Answer.the-variants.{Stored, Refused}
-use Rattle.table.specs.Records.{countWhere, lowestFree, stored}
-use Rattle.table.specs.Lent.{kindOf}
-use Rattle.table.specs.Expire.{step, minuteUnfit, expired}
-use Rattle.table.specs.Take.{lentFit, askedFit, laterRefusal, matchedIn, afterBoth, full, nullStep, nullTable, cancellingStep, cancellingTable, ordinaryStep, ordinaryTable, entryOf, keyOf, recordFor, stepBy, tableBy, refusalOf, takeStep, takeTable}
+use Rattle.table.specs.declared.Step.{Step}
+use Rattle.table.specs.declared.Answer.the-variants.{Freed, Stored, Refused}
+use Rattle.table.specs.Lent.{tableFits}
+use Rattle.table.specs.Catalogue.{kindFor}
+use Rattle.table.specs.Steps.{step, minuteUnfit, afterExpiry, expiredIn, afterMatching, matchedIn, placeIn, noRoom, afterStoring}
+use Rattle.table.specs.Expire.{expireRefusal, expireStep, expireTable}
+use Rattle.table.specs.Take.{keyOf, matches, matchesOf, recordFor, checkRefusal, takeRefusal, takenStep, takenTable, takeStep, takeTable}
+use Rattle.table.proofs.Freeing.{nothing-matched, nothing-changed}
 
--- the later refusals, in their order
-module _ (last minute location entry : ℕ) where
-  pub refused-13 : minuteUnfit last minute ≡ true → 13 ≡ laterRefusal last minute location entry
-  unfolding laterRefusal
-  refused-13 e = sym (chosen _ _ _ e)
+-- no free record matches
+pub never-free : (key : Key) → matching key freeRecord ≡ false
+unfolding matching
+never-free key = refl
 
-  pub refused-12 : minuteUnfit last minute ≡ false → 0xFC00 ≤ location → 12 ≡ laterRefusal last minute location entry
-  unfolding laterRefusal
-  refused-12 e h = sym (passed-over _ _ _ e ∙ chosen _ _ _ (le-leb 0xFC00 location h))
+-- what matches, for an event of kind 1 or 2 and for another
+pub matches-is : (kind : ℕ) (key : Key) (b : Bool) → eqb kind 1 || eqb kind 2 ≡ b → matches kind key ≡ (λ r. b && matching key r)
+unfolding matches
+matches-is kind key b e = ap {B = List ℕ → Bool} (λ (x : Bool). λ r. x && matching key r) e
 
-  pub refused-11 : minuteUnfit last minute ≡ false → location < 0xFC00 → kindOf entry ≡ 0 → 11 ≡ laterRefusal last minute location entry
-  unfolding laterRefusal
-  refused-11 e h k = sym (passed-over _ _ _ e ∙ passed-over _ _ _ (lt-leb 0xFC00 location h) ∙ chosen _ _ _ (eq-eqb (kindOf entry) 0 k))
-
-  pub not-refused : minuteUnfit last minute ≡ false → location < 0xFC00 → (kindOf entry ≡ 0 → ⊥) → 0 ≡ laterRefusal last minute location entry
-  unfolding laterRefusal
-  not-refused e h k = sym (passed-over _ _ _ e ∙ passed-over _ _ _ (lt-leb 0xFC00 location h) ∙ passed-over _ _ _ (ne-eqb (kindOf entry) 0 k))
-
--- the report of what is asked fits
-pub asked-report : (r : Report) (s : Service) (lto : ℤ) → askedFit r s lto ≡ true → reportFits r ≡ true
-unfolding askedFit
-asked-report r s lto h = and-left (reportFits r) ((leb (s .country) 15 && (leb (s .ltn) 63 && leb (s .sid) 63)) && offsetFits lto) h
-
--- the first refusal of a call
 module _ (t c l : List ℕ) (last : ℕ) (a : Arrival) (lto : ℤ) where
-  pub refused-take : (n : ℕ) → refusalOf t c l last a lto ≡ n → (n ≡ 0 → ⊥) → (step last (Refused n) ≡ takeStep t c l last a lto) × (t ≡ takeTable t c l last a lto)
+  abbrev Way : Step → List ℕ → Type 0
+  Way s u = (s ≡ takeStep t c l last a lto) × (u ≡ takeTable t c l last a lto)
+
+  pub refused-take : (n : ℕ) → takeRefusal t c l last a lto ≡ n → (n ≡ 0 → ⊥) → Way (step last (Refused n)) t
   unfolding takeStep takeTable
   refused-take n e h =
-      let off = ne-eqb (refusalOf t c l last a lto) 0 (λ z. h (sym e ∙ z)) in
+      let off = ne-eqb (takeRefusal t c l last a lto) 0 (λ z. h (sym e ∙ z)) in
       (ap (λ (m : ℕ). step last (Refused m)) (sym e) ∙ sym (passed-over _ _ _ off), sym (passed-over _ _ _ off))
 
-  pub unlent : lentFit t c l ≡ false → (step last (Refused 10) ≡ takeStep t c l last a lto) × (t ≡ takeTable t c l last a lto)
-  unfolding refusalOf
-  unlent e = refused-take 10 (passed-over _ _ _ e) (λ z. eqb-ne z)
-    where
-      eqb-ne : _≡_ {A = ℕ} 10 0 → ⊥
-      eqb-ne z = omega arith
+  pub accepted-take : takeRefusal t c l last a lto ≡ 0 → Way (takenStep (kindFor c (a .report)) (a .minute .0) (matchesOf c a) t) (takenTable (kindFor c (a .report)) (a .minute .0) (matchesOf c a) (recordFor c l a lto) t)
+  unfolding takeStep takeTable
+  accepted-take e = let on = eq-eqb (takeRefusal t c l last a lto) 0 e in (sym (chosen _ _ _ on), sym (chosen _ _ _ on))
 
-  module _ (lent : lentFit t c l ≡ true) where
-    pub unasked : askedFit (a .report) (a .service) lto ≡ false → (step last (Refused 9) ≡ takeStep t c l last a lto) × (t ≡ takeTable t c l last a lto)
-    unfolding refusalOf
-    unasked e = refused-take 9 (chosen _ _ _ lent ∙ passed-over _ _ _ e) (λ z. eqb-ne z)
-      where
-        eqb-ne : _≡_ {A = ℕ} 9 0 → ⊥
-        eqb-ne z = omega arith
+  -- refused by the checks
+  pub refused-check : (n : ℕ) → n ≡ checkRefusal t c l last a lto → (n ≡ 0 → ⊥) → Way (step last (Refused n)) t
+  unfolding takeRefusal
+  refused-check n e h = refused-take n (passed-over _ _ _ (ne-eqb (checkRefusal t c l last a lto) 0 (λ z. h (e ∙ z))) ∙ sym e) h
 
-    module _ (asked : askedFit (a .report) (a .service) lto ≡ true) where
-      refusal-is : refusalOf t c l last a lto ≡ laterRefusal last (a .minute .0) (a .report .head .location) (entryOf c (a .report))
-      unfolding refusalOf
-      refusal-is = chosen _ _ _ lent ∙ chosen _ _ _ asked
+  -- past the checks, by the room that there is for an event of kind 1
+  module _ (fine : checkRefusal t c l last a lto ≡ 0) where
+    room-refusal : (b : Bool) → eqb (kindFor c (a .report)) 1 && noRoom (a .minute .0) (matchesOf c a) t ≡ b → takeRefusal t c l last a lto ≡ cond b 14 0
+    unfolding takeRefusal
+    room-refusal b e = chosen _ _ _ (eq-eqb (checkRefusal t c l last a lto) 0 fine) ∙ ap (λ (x : Bool). cond x 14 0) e
 
-      pub refused-later : (n : ℕ) → n ≡ laterRefusal last (a .minute .0) (a .report .head .location) (entryOf c (a .report)) → (n ≡ 0 → ⊥) → (step last (Refused n) ≡ takeStep t c l last a lto) × (t ≡ takeTable t c l last a lto)
-      refused-later n e h = refused-take n (refusal-is ∙ sym e) h
+    pub no-room : kindFor c (a .report) ≡ 1 → noRoom (a .minute .0) (matchesOf c a) t ≡ true → Way (step last (Refused 14)) t
+    no-room is-1 full = refused-take 14 (room-refusal true (ap₂ (λ (x y : Bool). x && y) (eq-eqb (kindFor c (a .report)) 1 is-1) full)) (λ z. omega arith)
 
-      -- and what is not refused, by its kind
-      module _ (fine : laterRefusal last (a .minute .0) (a .report .head .location) (entryOf c (a .report)) ≡ 0) where
-        accepted : (stepBy (kindOf (entryOf c (a .report))) t last (a .minute .0) (keyOf c a) ≡ takeStep t c l last a lto) × (tableBy (kindOf (entryOf c (a .report))) t (a .minute .0) (keyOf c a) (recordFor c l a lto) ≡ takeTable t c l last a lto)
-        unfolding takeStep takeTable
-        accepted = let on = eq-eqb (refusalOf t c l last a lto) 0 (refusal-is ∙ fine) in (sym (chosen _ _ _ on), sym (chosen _ _ _ on))
+    pub has-room : kindFor c (a .report) ≡ 1 → noRoom (a .minute .0) (matchesOf c a) t ≡ false → takeRefusal t c l last a lto ≡ 0
+    has-room is-1 room = room-refusal false (ap₂ (λ (x y : Bool). x && y) (eq-eqb (kindFor c (a .report)) 1 is-1) room)
 
-        pub ordinary : kindOf (entryOf c (a .report)) ≡ 1 → (ordinaryStep t last (a .minute .0) (keyOf c a) ≡ takeStep t c l last a lto) × (ordinaryTable t (a .minute .0) (keyOf c a) (recordFor c l a lto) ≡ takeTable t c l last a lto)
-        unfolding stepBy tableBy
-        ordinary e = let on = eq-eqb (kindOf (entryOf c (a .report))) 1 e in (sym (chosen _ _ _ on) ∙ accepted .0, sym (chosen _ _ _ on) ∙ accepted .1)
+    pub no-room-needed : (kindFor c (a .report) ≡ 1 → ⊥) → takeRefusal t c l last a lto ≡ 0
+    no-room-needed not-1 = room-refusal false (ap (λ (x : Bool). x && noRoom (a .minute .0) (matchesOf c a) t) (ne-eqb (kindFor c (a .report)) 1 not-1))
 
-        pub cancelling : (kindOf (entryOf c (a .report)) ≡ 1 → ⊥) → kindOf (entryOf c (a .report)) ≡ 2 → (cancellingStep t (a .minute .0) (keyOf c a) ≡ takeStep t c l last a lto) × (cancellingTable t (a .minute .0) (keyOf c a) ≡ takeTable t c l last a lto)
-        unfolding stepBy tableBy
-        cancelling n e =
-            let off = ne-eqb (kindOf (entryOf c (a .report))) 1 n in
-            let on = eq-eqb (kindOf (entryOf c (a .report))) 2 e in
-            (sym (passed-over _ _ _ off ∙ chosen _ _ _ on) ∙ accepted .0, sym (passed-over _ _ _ off ∙ chosen _ _ _ on) ∙ accepted .1)
+    -- by the kind of the event
+    module _ (whole : length t % recordSize ≡ 0) where
+      abbrev m : ℕ
+      m = a .minute .0
 
-        pub null : (kindOf (entryOf c (a .report)) ≡ 1 → ⊥) → (kindOf (entryOf c (a .report)) ≡ 2 → ⊥) → (nullStep t (a .minute .0) ≡ takeStep t c l last a lto) × (nullTable t (a .minute .0) ≡ takeTable t c l last a lto)
-        unfolding stepBy tableBy
-        null n m =
-            let off = ne-eqb (kindOf (entryOf c (a .report))) 1 n in
-            let of = ne-eqb (kindOf (entryOf c (a .report))) 2 m in
-            (sym (passed-over _ _ _ off ∙ passed-over _ _ _ of) ∙ accepted .0, sym (passed-over _ _ _ off ∙ passed-over _ _ _ of) ∙ accepted .1)
+      abbrev kind : ℕ
+      kind = kindFor c (a .report)
 
--- room for an ordinary message, or none
-module _ (t : List ℕ) (last minute : ℕ) (key : Key) (r : List ℕ) (place : ℕ) (found : place ≡ lowestFree (afterBoth minute key t)) where
-  pub no-room : length t / recordSize ≤ place → (step last (Refused 14) ≡ ordinaryStep t last minute key) × (t ≡ ordinaryTable t minute key r)
-  unfolding ordinaryStep ordinaryTable full
-  no-room h =
-      let on : leb (length t / recordSize) (lowestFree (afterBoth minute key t)) ≡ true = ap (leb (length t / recordSize)) (sym found) ∙ le-leb (length t / recordSize) place h in
-      (sym (chosen _ _ _ on), sym (chosen _ _ _ on))
+      abbrev key : Key
+      key = keyOf c a
 
-  pub has-room : place < length t / recordSize → (step minute (Stored (countWhere (expired minute) t) (matchedIn minute key t) place) ≡ ordinaryStep t last minute key) × (stored (afterBoth minute key t) place r ≡ ordinaryTable t minute key r)
-  unfolding ordinaryStep ordinaryTable full
-  has-room h =
-      let off : leb (length t / recordSize) (lowestFree (afterBoth minute key t)) ≡ false = ap (leb (length t / recordSize)) (sym found) ∙ lt-leb (length t / recordSize) place h in (
-        ap (λ (n : ℕ). step minute (Stored (countWhere (expired minute) t) (matchedIn minute key t) n)) found ∙ sym (passed-over _ _ _ off),
-        ap (λ (n : ℕ). stored (afterBoth minute key t) n r) found ∙ sym (passed-over _ _ _ off),
-      )
+      -- with a test that says the same as what matches
+      taken : (q : List ℕ → Bool) → matchesOf c a ≡ q → takeRefusal t c l last a lto ≡ 0 → Way (takenStep kind m q t) (takenTable kind m q (recordFor c l a lto) t)
+      taken q same e =
+          let way = accepted-take e in
+          (ap (λ (p : List ℕ → Bool). takenStep kind m p t) (sym same) ∙ way .0, ap (λ (p : List ℕ → Bool). takenTable kind m p (recordFor c l a lto) t) (sym same) ∙ way .1)
+
+      pub null-way : kind ≡ 3 → Way (step m (Freed (expiredIn m t) 0)) (afterExpiry m t)
+      unfolding takenStep takenTable
+      null-way is-3 =
+          let not-1 : kind ≡ 1 → ⊥ = λ e. omega arith in
+          let off = ne-eqb kind 1 not-1 in
+          let way = taken (λ r. false) (matches-is kind key false (ap₂ (λ (x y : Bool). x || y) off (ne-eqb kind 2 (λ e. omega arith)))) (no-room-needed not-1) in (
+            sym (passed-over _ _ _ off ∙ ap (λ (n : ℕ). step m (Freed (expiredIn m t) n)) (nothing-matched m t whole)) ∙ way .0,
+            sym (passed-over _ _ _ off ∙ nothing-changed m t whole) ∙ way .1,
+          )
+
+      pub cancelling-way : kind ≡ 2 → Way (step m (Freed (expiredIn m t) (matchedIn m (matching key) t))) (afterMatching m (matching key) t)
+      unfolding takenStep takenTable
+      cancelling-way is-2 =
+          let not-1 : kind ≡ 1 → ⊥ = λ e. omega arith in
+          let off = ne-eqb kind 1 not-1 in
+          let way = taken (matching key) (matches-is kind key true (ap₂ (λ (x y : Bool). x || y) off (eq-eqb kind 2 is-2))) (no-room-needed not-1) in
+          (sym (passed-over _ _ _ off) ∙ way .0, sym (passed-over _ _ _ off) ∙ way .1)
+
+      pub ordinary-way : kind ≡ 1 → Way (cond (noRoom m (matching key) t) (step last (Refused 14)) (step m (Stored (expiredIn m t) (matchedIn m (matching key) t) (placeIn m (matching key) t)))) (cond (noRoom m (matching key) t) t (afterStoring m (matching key) (recordFor c l a lto) t))
+      unfolding takenStep takenTable
+      ordinary-way is-1 = by-room (noRoom m (matching key) t) refl
+        where
+          on : eqb kind 1 ≡ true
+          on = eq-eqb kind 1 is-1
+
+          same : matchesOf c a ≡ matching key
+          same = matches-is kind key true (ap (λ (x : Bool). x || eqb kind 2) on)
+
+          full : (b : Bool) → noRoom m (matching key) t ≡ b → noRoom m (matchesOf c a) t ≡ b
+          full b e = ap (λ (q : List ℕ → Bool). noRoom m q t) same ∙ e
+
+          by-room : (b : Bool) → noRoom m (matching key) t ≡ b → Way (cond (noRoom m (matching key) t) (step last (Refused 14)) (step m (Stored (expiredIn m t) (matchedIn m (matching key) t) (placeIn m (matching key) t)))) (cond (noRoom m (matching key) t) t (afterStoring m (matching key) (recordFor c l a lto) t))
+          by-room true e = let way = no-room is-1 (full true e) in (chosen _ _ _ e ∙ way .0, chosen _ _ _ e ∙ way .1)
+          by-room false e =
+              let way = taken (matching key) same (has-room is-1 (full false e)) in
+              (passed-over _ _ _ e ∙ sym (chosen _ _ _ on) ∙ way .0, passed-over _ _ _ e ∙ sym (chosen _ _ _ on) ∙ way .1)
+
+-- expiry alone
+module _ (t : List ℕ) (last minute : ℕ) where
+  abbrev Expiry : Step → List ℕ → Type 0
+  Expiry s u = (s ≡ expireStep t last minute) × (u ≡ expireTable t last minute)
+
+  pub refused-expiry : (n : ℕ) → expireRefusal t last minute ≡ n → (n ≡ 0 → ⊥) → Expiry (step last (Refused n)) t
+  unfolding expireStep expireTable
+  refused-expiry n e h =
+      let off = ne-eqb (expireRefusal t last minute) 0 (λ z. h (sym e ∙ z)) in
+      (ap (λ (m : ℕ). step last (Refused m)) (sym e) ∙ sym (passed-over _ _ _ off), sym (passed-over _ _ _ off))
+
+  -- by the two tests
+  pub expiry-by : (x y : Bool) → tableFits t ≡ x → minuteUnfit last minute ≡ y → expireRefusal t last minute ≡ cond x (cond y 13 0) 10
+  unfolding expireRefusal
+  expiry-by x y e f = ap₂ (λ (u v : Bool). cond u (cond v 13 0) 10) e f
+
+  pub accepted-expiry : tableFits t ≡ true → minuteUnfit last minute ≡ false → Expiry (step minute (Freed (expiredIn minute t) 0)) (afterExpiry minute t)
+  unfolding expireStep expireTable
+  accepted-expiry e f = let on = eq-eqb (expireRefusal t last minute) 0 (expiry-by true false e f) in (sym (chosen _ _ _ on), sym (chosen _ _ _ on))

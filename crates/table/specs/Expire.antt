@@ -1,35 +1,21 @@
 -- Expiry alone (document 01, "The message table").
 use Prim.Native.Nat.{ℕ}
-use mathlib.Core.Bool.{Bool, cond, _||_}
+use mathlib.Core.Bool.{cond}
 use mathlib.Core.List.{List}
-use lib.Dec.{ltb}
-use Rattle.clock.specs.Time.{largest}
-use Rattle.record.specs.declared.Rule.the-variants.{Expired}
-use Rattle.record.specs.Rules.{falls}
+use lib.Dec.{eqb}
 use Rattle.table.specs.declared.Step.{Step}
-use Rattle.table.specs.declared.Answer.{Answer}
 use Rattle.table.specs.declared.Answer.the-variants.{Freed, Refused}
-use Rattle.table.specs.Records.{freeWhere, countWhere}
 use Rattle.table.specs.Lent.{tableFits}
+use Rattle.table.specs.Steps.{step, minuteUnfit, afterExpiry, expiredIn}
 
--- the state and an answer
-abbrev pub step : ℕ → Answer → Step
-step last answer = record { last = record { 0 = last }; answer = answer }
+-- the first refusal, or 0
+unfoldable pub expireRefusal : List ℕ → (last minute : ℕ) → ℕ
+expireRefusal t last minute = cond (tableFits t) (cond (minuteUnfit last minute) 13 0) 10
 
--- a minute below the last one or too large
-unfoldable pub minuteUnfit : ℕ → ℕ → Bool
-minuteUnfit last minute = ltb minute last || ltb largest minute
-
--- the records that end at or before the minute
-abbrev pub expired : ℕ → List ℕ → Bool
-expired minute = falls (Expired minute)
-
-unfoldable pub expireStep : List ℕ → ℕ → ℕ → Step
+-- the state and the answer, and the table afterwards: step 1, or a refusal, which changes nothing
+unfoldable pub expireStep : List ℕ → (last minute : ℕ) → Step
 expireStep t last minute =
-    cond (tableFits t)
-    (cond (minuteUnfit last minute) (step last (Refused 13)) (step minute (Freed (countWhere (expired minute) t) 0)))
-    (step last (Refused 10))
+    cond (eqb (expireRefusal t last minute) 0) (step minute (Freed (expiredIn minute t) 0)) (step last (Refused (expireRefusal t last minute)))
 
--- the table afterwards: a refusal leaves it
-unfoldable pub expireTable : List ℕ → ℕ → ℕ → List ℕ
-expireTable t last minute = cond (tableFits t) (cond (minuteUnfit last minute) t (freeWhere (expired minute) t)) t
+unfoldable pub expireTable : List ℕ → (last minute : ℕ) → List ℕ
+expireTable t last minute = cond (eqb (expireRefusal t last minute) 0) (afterExpiry minute t) t

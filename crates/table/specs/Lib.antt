@@ -1,5 +1,10 @@
 pub mod Records
 pub mod Lent
+pub mod Catalogue
+pub mod Steps
 pub mod Expire
 pub mod Read
 pub mod Take
+pub mod Answers
+pub mod Calls
+pub mod Effect

@@ -5,7 +5,7 @@ use mathlib.Core.List.{List, [], _∷_, _++_, map}
 use lib.ListN.{length, take, drop, set}
 use Rattle.bits.specs.Bits.{num}
 use Rattle.record.specs.Layout.{recordSize, isFree}
-use Rattle.record.specs.Rules.{freedIf}
+use Rattle.record.specs.Gone.{freedIf}
 
 -- the first n records of bytes
 unfoldable pub chunks : ℕ → List ℕ → List (List ℕ)
@@ -35,9 +35,13 @@ unfoldable pub firstOf : (List ℕ → Bool) → List (List ℕ) → ℕ
 firstOf p [] = 0
 firstOf p (r ∷ rs) = cond (p r) 0 (suc (firstOf p rs))
 
+-- a pass: the table with every record changed by a function
+unfoldable pub over : (List ℕ → List ℕ) → List ℕ → List ℕ
+over f t = joined (map f (records t))
+
 -- the table with every record freed that a test holds of, and how many these are
-unfoldable pub freeWhere : (List ℕ → Bool) → List ℕ → List ℕ
-freeWhere p t = joined (map (freedIf p) (records t))
+abbrev pub freeWhere : (List ℕ → Bool) → List ℕ → List ℕ
+freeWhere p = over (freedIf p)
 
 unfoldable pub countWhere : (List ℕ → Bool) → List ℕ → ℕ
 countWhere p t = countIf p (records t)

@@ -1,13 +1,18 @@
 // Expiry alone.
 ghost use mathlib.Core.Path.{_≡_};
+ghost use Prim.Native.Nat.{_%_};
+ghost use lib.ListN.{length};
+ghost use Rattle.record.specs.Layout.{recordSize};
+ghost use Rattle.table.specs.declared.Answer.the-variants.{Freed};
+ghost use Rattle.table.specs.Steps.{step, minuteUnfit, afterExpiry, expiredIn};
 ghost use Rattle.table.specs.Expire.{expireStep, expireTable};
 use crate::Answer;
 use crate::Step;
 use crate::Table;
-use crate::sweep::sweep;
+use crate::refused;
+use crate::sweep::sweep_expired;
 use crate::well_formed::table_fits;
 use clock::Utc;
-use record::Rule;
 
 impl Table {
     // Frees every record whose expiry is at or below the minute. A malformed table is refused (10), then a minute below the last one
@@ -17,25 +22,34 @@ impl Table {
         ensures { λ _. ⌜ now (t .exit) ≡ expireTable (now (t .entry)) (last .0) (minute .0) ⌝ }
     {
         if !table_fits(t) {
-            return Step {
-                last,
-                answer: Answer::Refused(10),
-            };
+            return refused(last, 10);
         }
-        let now = minute.0;
-        if (now < last.0) | (Utc::LARGEST < now) {
-            return Step {
-                last,
-                answer: Answer::Refused(13),
-            };
+        if minute_unfit(last, minute) {
+            return refused(last, 13);
         }
-        let expired = sweep(t, Rule::Expired(now));
-        Step {
-            last: minute,
-            answer: Answer::Freed {
-                expired,
-                matched: 0,
-            },
-        }
+        free_expired(t, minute)
+    }
+}
+
+// Whether a minute is below the last one or too large.
+pub(crate) fn minute_unfit(last: Utc, minute: Utc) -> bool
+    ensures { λ b. ⌜ b ≡ minuteUnfit (last .0) (minute .0) ⌝ }
+{
+    (minute.0 < last.0) | (Utc::LARGEST < minute.0)
+}
+
+// Step 1 alone, as a call that is accepted answers it.
+pub(crate) fn free_expired(t: &mut [u8], minute: Utc) -> Step
+    requires { ⌜ length (now t) % recordSize ≡ 0 ⌝ }
+    ensures { λ s. ⌜ s ≡ step (minute .0) (Freed (expiredIn (minute .0) (now (t .entry))) 0) ⌝ }
+    ensures { λ _. ⌜ now (t .exit) ≡ afterExpiry (minute .0) (now (t .entry)) ⌝ }
+{
+    let expired = sweep_expired(t, minute);
+    Step {
+        last: minute,
+        answer: Answer::Freed {
+            expired,
+            matched: 0,
+        },
     }
 }

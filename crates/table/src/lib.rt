@@ -1,7 +1,9 @@
 // The message table: lent bytes, one record after the other. Reports are taken, records expire and are read.
-mod both;
+ghost use mathlib.Core.Path.{_≡_};
+ghost use Rattle.table.specs.declared.Answer.the-variants.{Refused};
+
+mod catalogue;
 mod expire;
-mod lent;
 mod read;
 mod search;
 mod sweep;
@@ -56,4 +58,14 @@ impl Table {
 
     // Location codes below this are of the service's own table.
     pub const FOREIGN: u16 = 0xFC00;
+}
+
+// A refusal: the last accepted minute stays.
+pub(crate) fn refused(last: Utc, number: u8) -> Step
+    ensures { λ s. ⌜ s ≡ record { last = last; answer = Refused number } ⌝ }
+{
+    Step {
+        last,
+        answer: Answer::Refused(number),
+    }
 }

@@ -1,29 +1,33 @@
 // A report is taken into the table.
 ghost use mathlib.Core.Path.{_≡_};
-ghost use mathlib.Core.Bool.{true};
+ghost use mathlib.Core.Bool.{true, cond};
 ghost use Prim.Native.Nat.{_/_, _%_, _<_};
 ghost use lib.ListN.{length};
-ghost use Rattle.report.specs.Fits.{reportFits};
 ghost use Rattle.record.specs.Layout.{recordSize};
-ghost use Rattle.record.specs.Made.{recordOf};
-ghost use Rattle.table.specs.declared.Answer.the-variants.{Refused};
+ghost use Rattle.record.specs.Matching.{matching};
+ghost use Rattle.record.specs.Made.{recordOf, canMake};
+ghost use Rattle.table.specs.declared.Answer.the-variants.{Freed, Stored, Refused};
 ghost use Rattle.table.specs.Records.{stored};
-ghost use Rattle.table.specs.Take.{lentFit, askedFit, laterRefusal, nullStep, nullTable, cancellingStep, cancellingTable, ordinaryStep, ordinaryTable, takeStep, takeTable};
+ghost use Rattle.table.specs.Steps.{step, expiredIn, afterMatching, matchedIn, placeIn, noRoom, afterStoring};
+ghost use Rattle.table.specs.Take.{lentFit, askedFit, laterRefusal, checkRefusal, takeStep, takeTable};
 use crate::Answer;
 use crate::Arrival;
 use crate::Step;
 use crate::Table;
-use crate::both::sweep_both;
-use crate::lent::catalogue_fits;
-use crate::lent::lives_fit;
+use crate::catalogue::Entry;
+use crate::catalogue::catalogue_fits;
+use crate::catalogue::lives_fit;
+use crate::expire::free_expired;
+use crate::expire::minute_unfit;
+use crate::refused;
 use crate::search::find_free;
-use crate::sweep::sweep;
+use crate::sweep::sweep_gone;
 use crate::well_formed::table_fits;
 use clock::Utc;
 use clock::offset_fits;
 use record::Key;
+use record::Location;
 use record::Record;
-use record::Rule;
 use record::Service;
 use record::make::put;
 use report::Report;
@@ -44,47 +48,33 @@ impl Table {
         ensures { λ s. ⌜ s ≡ takeStep (now (t .entry)) (now (catalogue .entry)) (now (lives .entry)) (last .0) arrival lto ⌝ }
         ensures { λ _. ⌜ now (t .exit) ≡ takeTable (now (t .entry)) (now (catalogue .entry)) (now (lives .entry)) (last .0) arrival lto ⌝ }
     {
-        if !lent_fit(t, catalogue, lives) {
-            return refused(last, 10);
-        }
-        let report = arrival.report;
-        let service = arrival.service;
-        if !asked_fit(report, service, lto) {
-            return refused(last, 9);
-        }
-        let minute = arrival.minute;
-        let head = report.head;
-        let entry = catalogue[head.event as usize];
-        let refusal = later_refusal(last, minute, head.location, entry);
+        let refusal = check(t, catalogue, lives, last, arrival, lto);
         if refusal != 0 {
             return refused(last, refusal);
         }
-        let life = lives[8 * (entry / 256 % 2) as usize + report.duration as usize];
-        let expiry = minute.expiry(lto, life) as u32;
-        let key = Key {
-            service,
-            location: head.location,
-            direction: head.direction,
-            class: (entry % 64) as u8,
-        };
-        let kind = entry / 64 % 4;
-        if kind == 1 {
-            return take_ordinary(t, last, minute, report, key, expiry);
-        }
-        if kind == 2 {
-            return take_cancelling(t, minute, key);
-        }
-        take_null(t, minute)
+        take_checked(t, catalogue, lives, last, arrival, lto)
     }
 }
 
-fn refused(last: Utc, number: u8) -> Step
-    ensures { λ s. ⌜ s ≡ record { last = last; answer = Refused number } ⌝ }
+// The first refusal but that for want of room, or 0.
+fn check(t: &[u8], catalogue: &[u16], lives: &[u16], last: Utc, arrival: Arrival, lto: i8) -> u8
+    ensures { λ n. ⌜ n ≡ checkRefusal (now (t .entry)) (now (catalogue .entry)) (now (lives .entry)) (last .0) arrival lto ⌝ }
 {
-    Step {
-        last,
-        answer: Answer::Refused(number),
+    if !lent_fit(t, catalogue, lives) {
+        return 10;
     }
+    let report = arrival.report;
+    let service = arrival.service;
+    if !asked_fit(report, service, lto) {
+        return 9;
+    }
+    let head = report.head;
+    let entry = Entry(catalogue[head.event as usize]);
+    let minute = arrival.minute;
+    let location = Location {
+        code: head.location,
+    };
+    later_refusal(last, minute, location, entry.kind())
 }
 
 // Whether the table, the catalogue and the lives are well-formed.
@@ -98,50 +88,71 @@ fn lent_fit(t: &[u8], catalogue: &[u16], lives: &[u16]) -> bool
 fn asked_fit(report: Report, service: Service, lto: i8) -> bool
     ensures { λ b. ⌜ b ≡ askedFit report service lto ⌝ }
 {
-    report.fits()
-        & (((service.country <= 15) & ((service.ltn <= 63) & (service.sid <= 63)))
-            & offset_fits(lto))
+    report.fits() & (service.fits() & offset_fits(lto))
 }
 
 // The refusal by minute, location and kind of event, or 0.
-fn later_refusal(last: Utc, minute: Utc, location: u16, entry: u16) -> u8
-    ensures { λ n. ⌜ n ≡ laterRefusal (last .0) (minute .0) location entry ⌝ }
+fn later_refusal(last: Utc, minute: Utc, location: Location, kind: u16) -> u8
+    ensures { λ n. ⌜ n ≡ laterRefusal (last .0) (minute .0) location kind ⌝ }
 {
-    if (minute.0 < last.0) | (Utc::LARGEST < minute.0) {
+    if minute_unfit(last, minute) {
         return 13;
     }
-    if Table::FOREIGN <= location {
+    if Table::FOREIGN <= location.code {
         return 12;
     }
-    if entry / 64 % 4 == 0 {
+    if kind == Entry::UNKNOWN {
         return 11;
     }
     0
 }
 
-// A null message only lets records expire.
-fn take_null(t: &mut [u8], minute: Utc) -> Step
-    requires { ⌜ length (now t) % recordSize ≡ 0 ⌝ }
-    ensures { λ s. ⌜ s ≡ nullStep (now (t .entry)) (minute .0) ⌝ }
-    ensures { λ _. ⌜ now (t .exit) ≡ nullTable (now (t .entry)) (minute .0) ⌝ }
+// A report that nothing refuses but, perhaps, want of room.
+fn take_checked(
+    t: &mut [u8],
+    catalogue: &[u16],
+    lives: &[u16],
+    last: Utc,
+    arrival: Arrival,
+    lto: i8,
+) -> Step
+    requires { ⌜ checkRefusal (now t) (now catalogue) (now lives) (last .0) arrival lto ≡ 0 ⌝ }
+    ensures { λ s. ⌜ s ≡ takeStep (now (t .entry)) (now (catalogue .entry)) (now (lives .entry)) (last .0) arrival lto ⌝ }
+    ensures { λ _. ⌜ now (t .exit) ≡ takeTable (now (t .entry)) (now (catalogue .entry)) (now (lives .entry)) (last .0) arrival lto ⌝ }
 {
-    let expired = sweep(t, Rule::Expired(minute.0));
-    Step {
-        last: minute,
-        answer: Answer::Freed {
-            expired,
-            matched: 0,
-        },
+    let report = arrival.report;
+    let head = report.head;
+    let minute = arrival.minute;
+    let entry = Entry(catalogue[head.event as usize]);
+    let kind = entry.kind();
+    if kind == Entry::NULL {
+        return free_expired(t, minute);
     }
+    let service = arrival.service;
+    let location = Location {
+        code: head.location,
+    };
+    let key = Key {
+        service,
+        location,
+        direction: head.direction,
+        class: entry.class(),
+    };
+    if kind == Entry::CANCELLING {
+        return take_cancelling(t, minute, key);
+    }
+    let life = lives[8 * entry.duration_type() as usize + report.duration as usize];
+    let expiry = Utc(minute.expiry(lto, life) as u32);
+    take_ordinary(t, last, minute, report, key, expiry)
 }
 
-// A cancelling message frees the matching records too.
+// A cancelling message frees the expired and the matching records.
 fn take_cancelling(t: &mut [u8], minute: Utc, key: Key) -> Step
     requires { ⌜ length (now t) % recordSize ≡ 0 ⌝ }
-    ensures { λ s. ⌜ s ≡ cancellingStep (now (t .entry)) (minute .0) key ⌝ }
-    ensures { λ _. ⌜ now (t .exit) ≡ cancellingTable (now (t .entry)) (minute .0) key ⌝ }
+    ensures { λ s. ⌜ s ≡ step (minute .0) (Freed (expiredIn (minute .0) (now (t .entry))) (matchedIn (minute .0) (matching key) (now (t .entry)))) ⌝ }
+    ensures { λ _. ⌜ now (t .exit) ≡ afterMatching (minute .0) (matching key) (now (t .entry)) ⌝ }
 {
-    let freed = sweep_both(t, minute.0, key);
+    let freed = sweep_gone(t, minute, key);
     Step {
         last: minute,
         answer: Answer::Freed {
@@ -158,13 +169,13 @@ fn take_ordinary(
     minute: Utc,
     report: Report,
     key: Key,
-    expiry: u32,
+    expiry: Utc,
 ) -> Step
-    requires { ⌜ (length (now t) % recordSize ≡ 0) × (reportFits report ≡ true) ⌝ }
-    ensures { λ s. ⌜ s ≡ ordinaryStep (now (t .entry)) (last .0) (minute .0) key ⌝ }
-    ensures { λ _. ⌜ now (t .exit) ≡ ordinaryTable (now (t .entry)) (minute .0) key (recordOf report (key .service) (key .class) expiry) ⌝ }
+    requires { ⌜ (length (now t) % recordSize ≡ 0) × (canMake report (key .service) (key .class) (expiry .0) ≡ true) ⌝ }
+    ensures { λ s. ⌜ s ≡ cond (noRoom (minute .0) (matching key) (now (t .entry))) (step (last .0) (Refused 14)) (step (minute .0) (Stored (expiredIn (minute .0) (now (t .entry))) (matchedIn (minute .0) (matching key) (now (t .entry))) (placeIn (minute .0) (matching key) (now (t .entry))))) ⌝ }
+    ensures { λ _. ⌜ now (t .exit) ≡ cond (noRoom (minute .0) (matching key) (now (t .entry))) (now (t .entry)) (afterStoring (minute .0) (matching key) (recordOf report (key .service) (key .class) (expiry .0)) (now (t .entry))) ⌝ }
 {
-    let both = sweep_both(t, minute.0, key);
+    let gone = sweep_gone(t, minute, key);
     let place = find_free(t);
     if t.len() / Record::SIZE <= place {
         return refused(last, 14);
@@ -174,17 +185,17 @@ fn take_ordinary(
     Step {
         last: minute,
         answer: Answer::Stored {
-            expired: both.expired,
-            matched: both.matched,
+            expired: gone.expired,
+            matched: gone.matched,
             place,
         },
     }
 }
 
 // Stores the record of a report in a place.
-fn put_at(t: &mut [u8], place: usize, report: Report, service: Service, class: u8, expiry: u32)
-    requires { ⌜ (length (now t) % recordSize ≡ 0) × (place < length (now t) / recordSize) × (reportFits report ≡ true) ⌝ }
-    ensures { λ _. ⌜ now (t .exit) ≡ stored (now (t .entry)) place (recordOf report service class expiry) ⌝ }
+fn put_at(t: &mut [u8], place: usize, report: Report, service: Service, class: u8, expiry: Utc)
+    requires { ⌜ (length (now t) % recordSize ≡ 0) × (place < length (now t) / recordSize) × (canMake report service class (expiry .0) ≡ true) ⌝ }
+    ensures { λ _. ⌜ now (t .exit) ≡ stored (now (t .entry)) place (recordOf report service class (expiry .0)) ⌝ }
 {
     let a = place * Record::SIZE;
     let e = a + Record::SIZE;

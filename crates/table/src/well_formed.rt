@@ -8,9 +8,7 @@ ghost use Rattle.table.specs.Records.{records, allOf};
 ghost use Rattle.table.specs.Lent.{tableFits};
 use crate::Table;
 use record::Record;
-use record::test::ends_with_class;
-use record::test::number_of;
-use record::test::row_of;
+use record::test::bytes_fit;
 use record::test::zero_bits;
 
 // Whether the bytes are 1 to 1,024 well-formed records.
@@ -27,7 +25,7 @@ pub(crate) fn table_fits(t: &[u8]) -> bool
     }
 }
 
-// Whether every record is well-formed: the bits of its row of masks are zero in each part, and a used one has an expiry and a class.
+// Whether every record is well-formed: all its bytes have zeros where they must, eight bytes at a time.
 fn records_fit(t: &[u8]) -> bool
     requires { ⌜ length (now t) % recordSize ≡ 0 ⌝ }
     ensures { λ b. ⌜ b ≡ allOf wellFormed (records (now (t .entry))) ⌝ }
@@ -41,19 +39,12 @@ fn records_fit(t: &[u8]) -> bool
         }
         let a = i * Record::SIZE;
         let e = a + Record::SIZE;
-        let row = row_of(t[a], t[a + 1]);
         let mut j = 0;
-        while j < Record::PARTS {
-            let from = a + j * Record::PART;
-            let to = from + Record::PART;
-            let part = number_of(&t[from..to]);
-            if part & zeros[row * Record::PARTS + j] != 0 {
+        while j < Record::SIZE {
+            if !bytes_fit(&t[a..e], &zeros, j) {
                 break 'records false;
             }
-            j += 1;
-        }
-        if (row != 0) & !ends_with_class(&t[a..e]) {
-            break 'records false;
+            j += Record::STEP;
         }
         i += 1;
     }

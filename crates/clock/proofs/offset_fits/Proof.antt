@@ -11,13 +11,10 @@ use borrow.Author.Needs.{needs}
 use Rattle.clock.proofs.offset_fits.Statement.{statement}
 use Rattle.clock.proofs.offset_fits.Tie as tie
 
-shifted-offset-requires : tie.Need-shifted-offset-requires
-shifted-offset-requires c κs = search needs
-
 returns : tie.Need-returns
 returns c =
     let e : c .shifted-offset .result ≡ shifted (c .before .args .lto) = c .shifted-offset .ensures ∙ ap shifted (toZ-ofZ w8 (c .before .args .lto) (c .before .fits .lto)) in
     ap (λ (n : ℕ). leb 97 n && leb n 159) e ∙ fits-shifted (c .before .args .lto) (c .before .fits .lto .sfits)
 
 pub offset-fits-spec : {M : Type 1} → statement M
-offset-fits-spec = tie.close (tie.spec shifted-offset-requires returns)
+offset-fits-spec = tie.close (tie.spec (search needs) returns)

@@ -5,12 +5,9 @@ use borrow.Author.Needs.{needs}
 use Rattle.clock.proofs.Local.to_midnight.Statement.{statement}
 use Rattle.clock.proofs.Local.to_midnight.Tie as tie
 
-sub-result : tie.Need-sub-result
-sub-result c = search needs
-
 returns : tie.Need-returns
 unfolding toMidnight
 returns c = refl
 
 pub to-midnight-spec : {M : Type 1} → statement M
-to-midnight-spec = tie.close (tie.spec sub-result returns)
+to-midnight-spec = tie.close (tie.spec (search needs) returns)

@@ -10,20 +10,8 @@ use borrow.Author.Needs.{needs}
 use Rattle.clock.proofs.Utc.expiry.Statement.{statement}
 use Rattle.clock.proofs.Utc.expiry.Tie as tie
 
-cast-minute : tie.Need-cast-minute
-cast-minute c = search needs
-
-local-requires : tie.Need-local-requires
-local-requires c κs = search needs
-
-to-midnight-requires : tie.Need-to-midnight-requires
-to-midnight-requires c κs = search needs
-
 add-result : tie.Need-add-result
 add-result c = omega (arith, c .to-midnight .ensures, ahead (c .before .local .result .0))
-
-add-result-2 : tie.Need-add-result-2
-add-result-2 c = search needs
 
 returns : tie.Need-returns
 returns c =
@@ -40,10 +28,10 @@ pub expiry-spec : {M : Type 1} → statement M
 expiry-spec =
     tie.close
     (tie.spec
-    cast-minute
-    local-requires
-    to-midnight-requires
+    (search needs)
+    (search needs)
+    (search needs)
     add-result
-    add-result-2
+    (search needs)
     returns
     returns-2)

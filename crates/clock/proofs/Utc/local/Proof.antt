@@ -9,24 +9,6 @@ use borrow.Author.Needs.{needs}
 use Rattle.clock.proofs.Utc.local.Statement.{statement}
 use Rattle.clock.proofs.Utc.local.Tie as tie
 
-cast-t3 : tie.Need-cast-t3
-cast-t3 c = search needs
-
-add-t4 : tie.Need-add-t4
-add-t4 c = search needs
-
-shifted-offset-requires : tie.Need-shifted-offset-requires
-shifted-offset-requires c κs = search needs
-
-cast-t6 : tie.Need-cast-t6
-cast-t6 c = search needs
-
-mul-t7 : tie.Need-mul-t7
-mul-t7 c = search needs
-
-add-t8 : tie.Need-add-t8
-add-t8 c = search needs
-
 returns : tie.Need-returns
 returns c =
     let a = c .before .before .args in
@@ -35,4 +17,4 @@ returns c =
 
 pub local-spec : {M : Type 1} → statement M
 local-spec =
-    tie.close (tie.spec cast-t3 add-t4 shifted-offset-requires cast-t6 mul-t7 add-t8 returns)
+    tie.close (tie.spec (search needs) (search needs) (search needs) (search needs) (search needs) (search needs) returns)

@@ -1,4 +1,5 @@
 -- The first i bytes are zero.
+use Rattle.record.specs.Layout.{recordSize}
 use Prim.Native.Nat.{ℕ, _-_, _≤_, _<_}
 use mathlib.Core.Path.{_≡_, refl, ap, _∙_}
 use mathlib.Core.List.{List, _++_, append-nil}
@@ -17,15 +18,6 @@ abbrev μ-loop : tie.MeasureT-loop
 loop-holds : tie.Need-loop-holds Inv-loop μ-loop
 loop-holds c = (omega arith, refl, refl)
 
-slice-write-r : tie.Need-slice-write-r Inv-loop μ-loop
-slice-write-r c = omega arith
-
-add-i : tie.Need-add-i Inv-loop μ-loop
-add-i c = omega arith
-
-loop-less : tie.Need-loop-less Inv-loop μ-loop
-loop-less c = omega arith
-
 loop-again : tie.Need-loop-again Inv-loop μ-loop
 loop-again c =
     let l = c .before .loop in
@@ -40,7 +32,7 @@ returns : tie.Need-returns Inv-loop μ-loop
 returns c =
     let l = c .before .loop in
     let r = c .before .before .args .r .now in
-    let e : l .i ≡ 32 = omega (arith, c .before .before .pre) in
+    let e : l .i ≡ recordSize = omega (arith, c .before .before .pre) in
     let none : length r ≤ l .i = omega arith in
     l .inv .2 ∙ ap (λ (x : List ℕ). replicate (l .i) 0 ++ x) (drop-of-length-le r none) ∙ append-nil (replicate (l .i) 0) ∙ ap (λ (n : ℕ). replicate n 0) e
 
@@ -51,9 +43,9 @@ clear-spec =
     Inv-loop
     μ-loop
     loop-holds
-    slice-write-r
-    add-i
-    loop-less
+    (λ c. omega arith)
+    (λ c. omega arith)
+    (λ c. omega arith)
     loop-again
     same-length
     returns)

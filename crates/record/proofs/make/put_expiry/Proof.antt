@@ -33,7 +33,7 @@ same-length : tie.Need-same-length
 same-length c = search needs
 
 returns : tie.Need-returns
-returns c = stored-whole (expiryBytes (c .args .expiry)) (c .args .r .now) (c .pre)
+returns c = stored-whole (expiryBytes (c .args .expiry .0)) (c .args .r .now) (c .pre)
 
 pub put-expiry-spec : {M : Type 1} → statement M
 put-expiry-spec =

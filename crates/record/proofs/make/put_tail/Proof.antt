@@ -1,5 +1,5 @@
 -- Both bytes are stored.
-use mathlib.Core.List.{[], _∷_}
+use Rattle.record.specs.Made.{tailBytes}
 use Rattle.record.proofs.Filling.{stored-whole}
 use borrow.Author.Needs.{needs}
 use Rattle.record.proofs.make.put_tail.Statement.{statement}
@@ -15,7 +15,7 @@ same-length : tie.Need-same-length
 same-length c = search needs
 
 returns : tie.Need-returns
-returns c = stored-whole (c .args .class ∷ c .args .country ∷ []) (c .args .r .now) (c .pre)
+returns c = stored-whole (tailBytes (c .args .class) (c .args .service)) (c .args .r .now) (c .pre)
 
 pub put-tail-spec : {M : Type 1} → statement M
 put-tail-spec = tie.close (tie.spec slice-write-r slice-write-r-2 same-length returns)

@@ -6,12 +6,9 @@ use borrow.Author.Needs.{needs}
 use Rattle.record.proofs.read.nothing.Statement.{statement}
 use Rattle.record.proofs.read.nothing.Tie as tie
 
-new-requires : tie.Need-new-requires
-new-requires c κs = search needs
-
 returns : tie.Need-returns
 unfolding nothing
 returns c = ap (λ (x : Report). record { answer = c .before .args .answer; report = x; service = record { country = 0; ltn = 0; sid = 0 }; expiry = 0 }) (c .new .ensures)
 
 pub nothing-spec : {M : Type 1} → statement M
-nothing-spec = tie.close (tie.spec new-requires returns)
+nothing-spec = tie.close (tie.spec (search needs) returns)

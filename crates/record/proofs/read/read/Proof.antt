@@ -1,95 +1,89 @@
 -- Refused, free, or what the message says.
-use Prim.Native.Nat.{ℕ}
-use mathlib.Core.Path.{sym, ap₂, _∙_}
+use Prim.Native.Nat.{ℕ, _≤_}
+use mathlib.Core.Path.{_≡_, sym, ap₂, _∙_}
+use mathlib.Core.Bool.{true, _&&_}
+use mathlib.Core.List.{List}
+use lib.ListN.{length}
+use borrow.Author.Tests.{eqb-true, not-true, not-false}
+use Rattle.bits.proofs.Choice.{and-left, and-right, chosen, passed-over}
 use Rattle.record.specs.declared.Service.{Service}
 use Rattle.record.specs.declared.Answer.the-variants.{Read}
-use Rattle.record.specs.Layout.{serviceIn, expiryIn}
-use Rattle.record.specs.Reads.{messageIn}
-use Rattle.record.proofs.Steps.{answered-read, answered-refused}
-use Rattle.record.proofs.Readings.{in-range, no-record-reading, free-reading, unread-groups, used-reading}
+use Rattle.record.specs.Layout.{recordSize, isRecord, byteAt, groupsIn, serviceIn, expiryIn}
+use Rattle.record.specs.WellFormed.{wellFormed}
+use Rattle.record.specs.Reads.{messageIn, readingIn, readingOf}
+use Rattle.record.proofs.Ranges.{groups-range}
+use Rattle.record.proofs.Steps.{free-reading, used-reading, answered-read, answered-refused}
 use borrow.Author.Needs.{needs}
 use Rattle.record.proofs.read.read.Statement.{statement}
 use Rattle.record.proofs.read.read.Tie as tie
 
-nothing-requires : tie.Need-nothing-requires
-nothing-requires c κs = search needs
+-- one well-formed record
+module _ (r : List ℕ) (h : isRecord r && wellFormed r ≡ true) where
+  sized : length r ≡ recordSize
+  sized = eqb-true (length r) recordSize (and-left (isRecord r) (wellFormed r) h)
+
+  readable : (byteAt r 0 ≡ 0 → ⊥) → (length r ≡ recordSize) × (1 ≤ groupsIn r) × (groupsIn r ≤ 5)
+  readable used = let g = groups-range r (and-right (isRecord r) (wellFormed r) h) used in (sized, g .0, g .1)
+
+  reading : readingIn r ≡ readingOf r
+  unfolding readingOf
+  reading = sym (chosen _ _ _ h)
 
 returns : tie.Need-returns
-returns c = c .nothing .ensures ∙ sym (no-record-reading (c .before .before .before .args .r .now) (c .before .if1 .taken))
+unfolding readingOf
+returns c = c .nothing .ensures ∙ sym (passed-over _ _ _ (sym (c .before .before .fits2 .ensures) ∙ not-true _ (c .before .if1 .taken)))
 
-shared-slice-read-if2 : tie.Need-shared-slice-read-if2
-shared-slice-read-if2 c = search needs
-
-nothing-requires-2 : tie.Need-nothing-requires-2
-nothing-requires-2 c κs = search needs
+read-mark : tie.Need-shared-slice-read-if2
+read-mark c = let long = sized (c .before .before .before .before .args .r .now) (sym (c .before .before .fits2 .ensures) ∙ not-false _ (c .before .if1 .left)) in search needs
 
 returns-2 : tie.Need-returns-2
-returns-2 c = c .nothing2 .ensures ∙ sym (free-reading (c .before .before .before .before .before .args .r .now) (c .before .before .before .if1 .left) (c .before .if2 .taken))
-
-shared-slice-read-if3 : tie.Need-shared-slice-read-if3
-shared-slice-read-if3 c = search needs
-
-shared-slice-read-if3-2 : tie.Need-shared-slice-read-if3-2
-shared-slice-read-if3-2 c = search needs
-
-nothing-requires-3 : tie.Need-nothing-requires-3
-nothing-requires-3 c κs = search needs
-
-returns-3 : tie.Need-returns-3
-returns-3 c = c .nothing3 .ensures ∙ sym (unread-groups (c .before .before .before .before .before .before .before .before .args .r .now) (c .before .before .before .before .if2 .left) (c .before .if3 .taken))
+returns-2 c =
+    let r = c .before .before .before .before .before .before .args .r .now in
+    c .nothing2 .ensures ∙ sym (free-reading r (c .before .if2 .taken)) ∙ reading r (sym (c .before .before .before .before .fits2 .ensures) ∙ not-false _ (c .before .before .before .if1 .left))
 
 message-requires : tie.Need-message-requires
-message-requires c κs = let some = in-range (c .before .before .before .before .before .before .before .args .r .now) (c .if3 .left) in (c .before .before .before .before .before .if1 .left, some .0, some .1)
-
-enum-told : tie.Need-enum-told
-enum-told c = search needs
-
-service-requires : tie.Need-service-requires
-service-requires c κs = search needs
+message-requires c κs = readable (c .before .before .before .before .before .args .r .now) (sym (c .before .before .before .fits2 .ensures) ∙ not-false _ (c .before .before .if1 .left)) (c .if2 .left)
 
 expiry-requires : tie.Need-expiry-requires
-expiry-requires c κs = search needs
+expiry-requires c κs = sized (c .before .before .before .before .before .before .before .args .r .now) (sym (c .before .before .before .before .before .fits2 .ensures) ∙ not-false _ (c .before .before .before .before .if1 .left))
 
-enum-known-answer : tie.Need-enum-known-answer
-enum-known-answer c = search needs
+service-requires : tie.Need-service-requires
+service-requires c κs = sized (c .before .before .before .before .before .before .before .before .before .before .args .r .now) (sym (c .before .before .before .before .before .before .before .before .fits2 .ensures) ∙ not-false _ (c .before .before .before .before .before .before .before .if1 .left))
 
-nothing-requires-4 : tie.Need-nothing-requires-4
-nothing-requires-4 c κs = search needs
+returns-3 : tie.Need-returns-3
+returns-3 c =
+    let start = c .before .before .before .before .before in
+    let r = start .before .before .before .before .before .before .args .r .now in
+    let x = start .message .result in
+    ap₂ (λ (s : Service) (n : ℕ). record { answer = Read; report = x .report; service = s; expiry = n }) (c .service .ensures) (c .before .before .before .expiry .ensures)
+    ∙ answered-read x (messageIn r) (serviceIn r) (expiryIn r) (start .message .ensures) (c .before .enum-told .given .1)
+    ∙ sym (used-reading r (start .before .if2 .left))
+    ∙ reading r (sym (start .before .before .before .before .fits2 .ensures) ∙ not-false _ (start .before .before .before .if1 .left))
 
 returns-4 : tie.Need-returns-4
 returns-4 c =
-    let r = c .before .before .before .before .before .before .before .before .before .before .before .before .before .args .r .now in
-    let x = c .before .before .before .before .before .message .result in
-    ap₂ (λ (s : Service) (n : ℕ). record { answer = Read; report = x .report; service = s; expiry = n }) (c .before .service .ensures) (c .expiry .ensures)
-    ∙ answered-read x (messageIn r) (serviceIn r) (expiryIn r) (c .before .before .before .before .before .message .ensures) (c .before .before .enum-told .given .1)
-    ∙ sym (used-reading r (c .before .before .before .before .before .before .before .before .before .before .before .if1 .left) (c .before .before .before .before .before .before .before .before .before .if2 .left) (c .before .before .before .before .before .before .if3 .left))
-
-returns-5 : tie.Need-returns-5
-returns-5 c =
-    let r = c .before .before .before .before .before .before .before .before .before .before .before .before .before .args .r .now in
-    let x = c .before .before .before .before .before .message .result in
-    c .nothing4 .ensures
-    ∙ answered-refused x (messageIn r) (serviceIn r) (expiryIn r) (c .before .before .before .before .before .message .ensures) (c .before .before .answer .given .0 .0) (c .before .before .answer .given .1)
-    ∙ sym (used-reading r (c .before .before .before .before .before .before .before .before .before .before .before .if1 .left) (c .before .before .before .before .before .before .before .before .before .if2 .left) (c .before .before .before .before .before .before .if3 .left))
+    let start = c .before .before .before .before .before .before in
+    let r = start .before .before .before .before .before .before .args .r .now in
+    c .nothing3 .ensures
+    ∙ answered-refused (start .message .result) (messageIn r) (serviceIn r) (expiryIn r) (start .message .ensures) (c .before .before .answer .given .0 .0) (c .before .before .answer .given .1)
+    ∙ sym (used-reading r (start .before .if2 .left))
+    ∙ reading r (sym (start .before .before .before .before .fits2 .ensures) ∙ not-false _ (start .before .before .before .if1 .left))
 
 pub read-spec : {M : Type 1} → statement M
 read-spec =
     tie.close
     (tie.spec
-    nothing-requires
+    (search needs)
+    (search needs)
     returns
-    shared-slice-read-if2
-    nothing-requires-2
+    read-mark
+    (search needs)
     returns-2
-    shared-slice-read-if3
-    shared-slice-read-if3-2
-    nothing-requires-3
-    returns-3
     message-requires
-    enum-told
-    service-requires
     expiry-requires
-    enum-known-answer
-    nothing-requires-4
-    returns-4
-    returns-5)
+    (search needs)
+    service-requires
+    (search needs)
+    (search needs)
+    returns-3
+    returns-4)

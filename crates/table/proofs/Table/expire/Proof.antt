@@ -1,72 +1,51 @@
 -- Each way out.
-use Prim.Native.Nat.{ℕ}
-use mathlib.Core.Path.{_≡_, sym, ap, _∙_}
+use mathlib.Core.Path.{refl, sym, _∙_}
 use mathlib.Core.Bool.{true, false}
+use native.Mathlib.Omega.{arith}
 use borrow.Author.Tests.{not-true, not-false}
-use Rattle.bits.proofs.Choice.{chosen, passed-over}
-use Rattle.table.specs.declared.Answer.the-variants.{Freed}
-use Rattle.table.specs.Lent.{tableFits}
-use Rattle.table.specs.Expire.{step, minuteUnfit, expireStep, expireTable}
+use Rattle.table.specs.Steps.{minuteUnfit}
 use Rattle.table.proofs.Lents.{table-whole}
+use Rattle.table.proofs.Takes.{refused-expiry, expiry-by, accepted-expiry}
 use borrow.Author.Needs.{needs}
 use Rattle.table.proofs.Table.expire.Statement.{statement}
 use Rattle.table.proofs.Table.expire.Tie as tie
 
-table-fits-requires : tie.Need-table-fits-requires
-table-fits-requires c κs = search needs
-
-same-length : tie.Need-same-length
-same-length c = search needs
-
 returns : tie.Need-returns
-unfolding expireStep expireTable
 returns c =
-    let a = c .before .before .before .before .args in
-    let t = a .t .now in
-    let off : tableFits t ≡ false = sym (c .before .table-fits .ensures) ∙ not-true (c .before .table-fits .result) (c .if1 .taken) in
-    (sym (passed-over _ _ _ off), sym (passed-over _ _ _ off))
-
-same-length-2 : tie.Need-same-length-2
-same-length-2 c = search needs
+    let a = c .before .before .before .before .before .args in
+    let way = refused-expiry (a .t .now) (a .last .0) (a .minute .0) 10 (expiry-by (a .t .now) (a .last .0) (a .minute .0) false (minuteUnfit (a .last .0) (a .minute .0)) (sym (c .before .before .table-fits .ensures) ∙ not-true _ (c .before .if1 .taken)) refl) (λ z. omega arith) in
+    (c .refused .ensures ∙ way .0, way .1)
 
 returns-2 : tie.Need-returns-2
-unfolding expireStep expireTable minuteUnfit
 returns-2 c =
-    let a = c .before .before .before .before .before .before .args in
-    let t = a .t .now in
-    let on : tableFits t ≡ true = sym (c .before .before .before .table-fits .ensures) ∙ not-false (c .before .before .before .table-fits .result) (c .before .before .if1 .left) in
-    (sym (chosen _ _ _ on ∙ chosen _ _ _ (c .if2 .taken)), sym (chosen _ _ _ on ∙ chosen _ _ _ (c .if2 .taken)))
-
-sweep-requires : tie.Need-sweep-requires
-sweep-requires c κs =
     let a = c .before .before .before .before .before .before .before .args in
-    let t = a .t .now in
-    let on : tableFits t ≡ true = sym (c .before .before .before .before .table-fits .ensures) ∙ not-false (c .before .before .before .before .table-fits .result) (c .before .before .before .if1 .left) in
-    table-whole t on
+    let fits = sym (c .before .before .before .before .table-fits .ensures) ∙ not-false _ (c .before .before .before .if1 .left) in
+    let way = refused-expiry (a .t .now) (a .last .0) (a .minute .0) 13 (expiry-by (a .t .now) (a .last .0) (a .minute .0) true true fits (sym (c .before .before .minute-unfit .ensures) ∙ c .before .if2 .taken)) (λ z. omega arith) in
+    (c .refused2 .ensures ∙ way .0, way .1)
 
-same-length-3 : tie.Need-same-length-3
-same-length-3 c = search needs
+free-expired-requires : tie.Need-free-expired-requires
+free-expired-requires c κs = table-whole (c .before .before .before .before .before .before .before .args .t .now) (sym (c .before .before .before .before .table-fits .ensures) ∙ not-false _ (c .before .before .before .if1 .left))
 
 returns-3 : tie.Need-returns-3
-unfolding expireStep expireTable minuteUnfit
 returns-3 c =
     let a = c .before .before .before .before .before .before .before .before .before .before .args in
-    let t = a .t .now in
-    let on : tableFits t ≡ true = sym (c .before .before .before .before .before .before .before .table-fits .ensures) ∙ not-false (c .before .before .before .before .before .before .before .table-fits .result) (c .before .before .before .before .before .before .if1 .left) in
-    let s = c .before .before .sweep in (
-      ap (λ (n : ℕ). step (a .minute .0) (Freed n 0)) (s .ensures .0) ∙ sym (chosen _ _ _ on ∙ passed-over _ _ _ (c .before .before .before .before .if2 .left)),
-      s .ensures .1 ∙ sym (chosen _ _ _ on ∙ passed-over _ _ _ (c .before .before .before .before .if2 .left)),
-    )
+    let fits = sym (c .before .before .before .before .before .before .before .table-fits .ensures) ∙ not-false _ (c .before .before .before .before .before .before .if1 .left) in
+    let way = accepted-expiry (a .t .now) (a .last .0) (a .minute .0) fits (sym (c .before .before .before .before .before .minute-unfit .ensures) ∙ c .before .before .before .before .if2 .left) in
+    let f = c .before .before .free-expired .ensures in
+    (f .0 ∙ way .0, f .1 ∙ way .1)
 
 pub expire-spec : {M : Type 1} → statement M
 expire-spec =
     tie.close
     (tie.spec
-    table-fits-requires
-    same-length
+    (search needs)
+    (search needs)
+    (search needs)
     returns
-    same-length-2
+    (search needs)
+    (search needs)
+    (search needs)
     returns-2
-    sweep-requires
-    same-length-3
+    free-expired-requires
+    (search needs)
     returns-3)

@@ -8,7 +8,7 @@ use Rattle.bits.proofs.Choice.{chosen, passed-over}
 use Rattle.record.specs.Layout.{recordSize}
 use Rattle.record.specs.WellFormed.{wellFormed}
 use Rattle.record.specs.Reads.{readingIn, readingOf}
-use Rattle.record.proofs.Readings.{fit-reading}
+use Rattle.record.proofs.Steps.{fit-reading}
 use Rattle.table.specs.Records.{records}
 use Rattle.table.specs.Lent.{tableFits}
 use Rattle.table.specs.Read.{recordAt}
@@ -18,12 +18,6 @@ use borrow.Author.Needs.{needs}
 use Rattle.table.proofs.Table.read.Statement.{statement}
 use Rattle.table.proofs.Table.read.Tie as tie
 
-table-fits-requires : tie.Need-table-fits-requires
-table-fits-requires c κs = search needs
-
-nothing-requires : tie.Need-nothing-requires
-nothing-requires c κs = search needs
-
 returns : tie.Need-returns
 unfolding recordAt
 returns c =
@@ -32,9 +26,6 @@ returns c =
     let off : tableFits t ≡ false = sym (c .before .before .table-fits .ensures) ∙ not-true (c .before .before .table-fits .result) (c .before .if1 .taken) in
     c .nothing .ensures ∙ sym (passed-over _ _ _ off)
 
-nothing-requires-2 : tie.Need-nothing-requires-2
-nothing-requires-2 c κs = search needs
-
 returns-2 : tie.Need-returns-2
 unfolding recordAt
 returns-2 c =
@@ -42,24 +33,6 @@ returns-2 c =
     let t = a .t .now in
     let on : tableFits t ≡ true = sym (c .before .before .before .table-fits .ensures) ∙ not-false (c .before .before .before .table-fits .result) (c .before .before .if1 .left) in
     c .nothing2 .ensures ∙ sym (chosen _ _ _ on ∙ chosen _ _ _ (le-leb (length t / recordSize) (a .i) (c .before .if2 .taken)))
-
-mul-a : tie.Need-mul-a
-mul-a c = search needs
-
-add-e : tie.Need-add-e
-add-e c = search needs
-
-sub-read : tie.Need-sub-read
-sub-read c = search needs
-
-part-read-start : tie.Need-part-read-start
-part-read-start c = search needs
-
-part-read-end : tie.Need-part-read-end
-part-read-end c = search needs
-
-read-requires : tie.Need-read-requires
-read-requires c κs = search needs
 
 returns-3 : tie.Need-returns-3
 unfolding recordAt records
@@ -79,15 +52,15 @@ pub read-spec : {M : Type 1} → statement M
 read-spec =
     tie.close
     (tie.spec
-    table-fits-requires
-    nothing-requires
+    (λ c κs. search needs)
+    (λ c κs. search needs)
     returns
-    nothing-requires-2
+    (λ c κs. search needs)
     returns-2
-    mul-a
-    add-e
-    sub-read
-    part-read-start
-    part-read-end
-    read-requires
+    (λ c. search needs)
+    (λ c. search needs)
+    (λ c. search needs)
+    (λ c. search needs)
+    (λ c. search needs)
+    (λ c κs. search needs)
     returns-3)

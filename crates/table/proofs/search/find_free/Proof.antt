@@ -24,18 +24,6 @@ loop-holds c =
     let whole = ap (firstOf isFree) (rest-whole (length t / recordSize) t) in
     (omega arith, omega (arith, whole))
 
-mul-a : tie.Need-mul-a Inv-loop μ-loop
-mul-a c = omega arith
-
-shared-slice-read-if2 : tie.Need-shared-slice-read-if2 Inv-loop μ-loop
-shared-slice-read-if2 c = omega arith
-
-add-i : tie.Need-add-i Inv-loop μ-loop
-add-i c = omega arith
-
-loop-less : tie.Need-loop-less Inv-loop μ-loop
-loop-less c = omega arith
-
 loop-again : tie.Need-loop-again Inv-loop μ-loop
 loop-again c =
     let t = c .before .before .before .before .args .t .now in
@@ -71,10 +59,10 @@ find-free-spec =
     Inv-loop
     μ-loop
     loop-holds
-    mul-a
-    shared-slice-read-if2
-    add-i
-    loop-less
+    (λ c. omega arith)
+    (λ c. omega arith)
+    (λ c. omega arith)
+    (λ c. omega arith)
     loop-again
     returns
     returns-2)

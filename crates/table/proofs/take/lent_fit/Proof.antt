@@ -6,19 +6,10 @@ use borrow.Author.Needs.{needs}
 use Rattle.table.proofs.take.lent_fit.Statement.{statement}
 use Rattle.table.proofs.take.lent_fit.Tie as tie
 
-table-fits-requires : tie.Need-table-fits-requires
-table-fits-requires c κs = search needs
-
-catalogue-fits-requires : tie.Need-catalogue-fits-requires
-catalogue-fits-requires c κs = search needs
-
-lives-fit-requires : tie.Need-lives-fit-requires
-lives-fit-requires c κs = search needs
-
 returns : tie.Need-returns
 unfolding lentFit
 returns c = ap₂ (λ (x y : Bool). x && y) (c .before .before .table-fits .ensures) (ap₂ (λ (x y : Bool). x && y) (c .before .catalogue-fits .ensures) (c .lives-fit .ensures))
 
 pub lent-fit-spec : {M : Type 1} → statement M
 lent-fit-spec =
-    tie.close (tie.spec table-fits-requires catalogue-fits-requires lives-fit-requires returns)
+    tie.close (tie.spec (λ c κs. search needs) (λ c κs. search needs) (λ c κs. search needs) returns)

@@ -1,5 +1,5 @@
 -- The number of bytes, and then every record.
-use Prim.Native.Nat.{_%_}
+use Prim.Native.Nat.{_*_, _%_}
 use lib.ListN.{length}
 use lib.Dec.{leb, eqb}
 use mathlib.Core.Path.{sym, ap, _∙_}
@@ -14,14 +14,11 @@ use borrow.Author.Needs.{needs}
 use Rattle.table.proofs.well_formed.table_fits.Statement.{statement}
 use Rattle.table.proofs.well_formed.table_fits.Tie as tie
 
-mul-if1 : tie.Need-mul-if1
-mul-if1 c = search needs
-
 records-fit-requires : tie.Need-records-fit-requires
 records-fit-requires c κs =
     let n = length (c .before .before .args .t .now) in
     let last = eqb (n % recordSize) 0 in
-    eqb-true (n % recordSize) 0 (and-right (leb n 32768) last (and-right (leb recordSize n) (leb n 32768 && last) (c .if1 .taken)))
+    eqb-true (n % recordSize) 0 (and-right (leb n (1024 * recordSize)) last (and-right (leb recordSize n) (leb n (1024 * recordSize) && last) (c .if1 .taken)))
 
 returns : tie.Need-returns
 unfolding tableFits sized
@@ -32,4 +29,4 @@ unfolding tableFits sized
 returns-2 c = sym (ap (λ (b : Bool). b && allOf wellFormed (records (c .before .before .args .t .now))) (c .if1 .left))
 
 pub table-fits-spec : {M : Type 1} → statement M
-table-fits-spec = tie.close (tie.spec mul-if1 records-fit-requires returns returns-2)
+table-fits-spec = tie.close (tie.spec (λ c. search needs) records-fit-requires returns returns-2)

@@ -1,0 +1,21 @@
+-- The records that match a report (document 01, "The message table", step 2; ISO 14819-1, clause 6.4).
+use Prim.Native.Nat.{ℕ}
+use mathlib.Core.Bool.{Bool, not, _&&_}
+use mathlib.Core.List.{List}
+use lib.Dec.{eqb}
+use Rattle.record.specs.declared.Service.{Service}
+use Rattle.record.specs.declared.Location.{Location}
+use Rattle.record.specs.declared.Key.{Key}
+use Rattle.record.specs.Layout.{isFree, serviceIn, locationIn, directionIn, classIn}
+
+-- two services, and two locations, are the same if all their parts are
+abbrev pub sameService : (x y : Service) → Bool
+sameService x y = eqb (x .country) (y .country) && (eqb (x .ltn) (y .ltn) && eqb (x .sid) (y .sid))
+
+abbrev pub sameLocation : (x y : Location) → Bool
+sameLocation x y = eqb (x .code) (y .code)
+
+-- a used record of the same service, location, direction and update class of the first event
+unfoldable pub matching : Key → List ℕ → Bool
+matching k r =
+    not (isFree r) && (sameService (serviceIn r) (k .service) && (sameLocation (locationIn r) (k .location) && (eqb (directionIn r) (k .direction) && eqb (classIn r) (k .class))))

@@ -1,0 +1,70 @@
+// The fields of a record.
+ghost use mathlib.Core.Path.{_≡_};
+ghost use Prim.Native.Nat.{_+_, _≤_};
+ghost use lib.ListN.{length};
+ghost use Rattle.record.specs.Layout.{recordSize, twoAt, fourAt, expiryIn, locationIn, serviceIn, headIn};
+use crate::Location;
+use crate::Record;
+use crate::Service;
+use clock::Utc;
+use word::Head;
+
+// The number that two bytes are, the first one lowest.
+fn two(r: &[u8], at: usize) -> u16
+    requires { ⌜ at + 2 ≤ length (now r) ⌝ }
+    ensures { λ n. ⌜ n ≡ twoAt (now (r .entry)) at ⌝ }
+{
+    r[at] as u16 + 0x100 * (r[at + 1] as u16)
+}
+
+// The number that four bytes are, the first one lowest.
+pub(crate) fn four(r: &[u8], at: usize) -> u32
+    requires { ⌜ at + 4 ≤ length (now r) ⌝ }
+    ensures { λ n. ⌜ n ≡ fourAt (now (r .entry)) at ⌝ }
+{
+    r[at] as u32
+        + 0x100 * (r[at + 1] as u32)
+        + 0x1_0000 * (r[at + 2] as u32)
+        + 0x100_0000 * (r[at + 3] as u32)
+}
+
+// The minute at which the record ends.
+pub(crate) fn expiry(r: &[u8]) -> Utc
+    requires { ⌜ length (now r) ≡ recordSize ⌝ }
+    ensures { λ n. ⌜ n .0 ≡ expiryIn (now (r .entry)) ⌝ }
+{
+    Utc(four(r, Record::EXPIRY))
+}
+
+pub(crate) fn location(r: &[u8]) -> Location
+    requires { ⌜ length (now r) ≡ recordSize ⌝ }
+    ensures { λ l. ⌜ l ≡ locationIn (now (r .entry)) ⌝ }
+{
+    Location {
+        code: two(r, Record::LOCATION),
+    }
+}
+
+pub(crate) fn service(r: &[u8]) -> Service
+    requires { ⌜ length (now r) ≡ recordSize ⌝ }
+    ensures { λ s. ⌜ s ≡ serviceIn (now (r .entry)) ⌝ }
+{
+    Service {
+        country: r[Record::COUNTRY],
+        ltn: r[Record::LTN],
+        sid: r[Record::SID],
+    }
+}
+
+pub(crate) fn head(r: &[u8]) -> Head
+    requires { ⌜ length (now r) ≡ recordSize ⌝ }
+    ensures { λ h. ⌜ h ≡ headIn (now (r .entry)) ⌝ }
+{
+    let location = location(r);
+    Head {
+        direction: r[Record::DIRECTION],
+        extent: r[Record::EXTENT],
+        event: two(r, Record::EVENT),
+        location: location.code,
+    }
+}

@@ -1,0 +1,126 @@
+-- What is known of a report that the checks take, and of the record that it is stored in.
+use Prim.Native.Nat.{ℕ, _+_, _*_, _≤_, _<_}
+use native.Mathlib.Omega.{arith}
+use mathlib.Core.Path.{_≡_, refl, sym, ap₂, _∙_}
+use mathlib.Core.Bool.{Bool, true, false, cond, not, _&&_, _||_}
+use mathlib.Core.List.{List}
+use lib.IntN.{ℤ}
+use lib.ListN.{length}
+use lib.Dec.{ltb, eqb}
+use borrow.Author.Tests.{le-leb, eqb-true, eqb-false, ltb-false, ne-eqb}
+use Rattle.bits.proofs.Choice.{and-left, and-right, chosen, passed-over}
+use Rattle.clock.specs.Time.{largest, localOf, expiryOf, offsetFits}
+use Rattle.clock.proofs.Midnight.{ahead, until-midnight, after-life}
+use Rattle.report.specs.Fits.{reportFits}
+use Rattle.record.specs.declared.Location.{Location}
+use Rattle.record.specs.Made.{serviceFits, canMake}
+use Rattle.record.specs.WellFormed.{wellFormed}
+use Rattle.record.proofs.Reports.{report-ranges}
+use Rattle.record.proofs.MadeFits.{made-fits}
+use Rattle.table.specs.declared.Arrival.{Arrival}
+use Rattle.table.specs.Catalogue.{classOf, kindOf, typeOf, entryFits, entryFor, kindFor, classFor, lifeFor}
+use Rattle.table.specs.Steps.{minuteUnfit}
+use Rattle.table.specs.Take.{lentFit, askedFit, isForeign, laterRefusal, checkRefusal, locationOf, expiryFor, recordFor}
+use Rattle.table.proofs.Lents.{lent-events, lent-entry, lent-lives, life-short}
+
+-- an ordinary event has an update class
+ordinary-class : (x : ℕ) → entryFits x ≡ true → kindOf x ≡ 1 → 1 ≤ classOf x
+unfolding entryFits
+ordinary-class x h e = by-test (eqb (classOf x) 0) refl (and-right (ltb x 512) _ h)
+  where
+    by-test : (b : Bool) → eqb (classOf x) 0 ≡ b → b && (eqb (kindOf x) 0 || eqb (kindOf x) 3) || not b && (eqb (kindOf x) 1 || eqb (kindOf x) 2) ≡ true → 1 ≤ classOf x
+    by-test true z k =
+        let no : eqb (kindOf x) 0 ≡ false = ne-eqb (kindOf x) 0 (λ y. omega arith) in
+        let nor : eqb (kindOf x) 3 ≡ false = ne-eqb (kindOf x) 3 (λ y. omega arith) in
+        let f : false ≡ true = sym (ap₂ (λ (u v : Bool). (u || v) || false) no nor) ∙ k in
+        let q : _≡_ {A = ℕ} 0 1 = cc in
+        absurd (omega arith)
+    by-test false z k = let some = eqb-false (classOf x) 0 z in omega arith
+
+-- what ends, ends after minute 0 and at a minute of 32 bits
+expiry-fits : (minute : ℕ) (lto : ℤ) (life : ℕ) → minute ≤ largest → life ≤ 10080 → (1 ≤ expiryOf minute lto life) × (expiryOf minute lto life < 0x1_0000_0000)
+expiry-fits minute lto life m h = by-test (eqb life 0) refl
+  where
+    by-test : (b : Bool) → eqb life 0 ≡ b → (1 ≤ expiryOf minute lto life) × (expiryOf minute lto life < 0x1_0000_0000)
+    by-test true e =
+        let ends = until-midnight minute lto life (eqb-true life 0 e) in
+        (omega (arith, ends, ahead (localOf minute lto)), omega (arith, ends, ahead (localOf minute lto)))
+    by-test false e = let some = eqb-false life 0 e in let ends = after-life minute lto life some in (omega (arith, ends), omega (arith, ends))
+
+-- a minute that is not refused is not below the last one, and not too large
+pub minute-fits : (last minute : ℕ) → minuteUnfit last minute ≡ false → (last ≤ minute) × (minute ≤ largest)
+unfolding minuteUnfit
+minute-fits last minute e = let n = neither (ltb minute last) (ltb largest minute) e in (ltb-false minute last (n .0), ltb-false largest minute (n .1))
+  where
+    neither : (a b : Bool) → a || b ≡ false → (a ≡ false) × (b ≡ false)
+    neither true b h = (h, let z : true ≡ false = h in cc)
+    neither false b h = (refl, h)
+
+-- and an event that is not refused is known
+later-passed : (last minute : ℕ) (location : Location) (kind : ℕ) → laterRefusal last minute location kind ≡ 0 → (minuteUnfit last minute ≡ false) × (eqb kind 0 ≡ false)
+unfolding laterRefusal
+later-passed last minute location kind h = by-tests (minuteUnfit last minute) (isForeign location) (eqb kind 0) h
+  where
+    by-tests : (x y z : Bool) → _≡_ {A = ℕ} (cond x 13 (cond y 12 (cond z 11 0))) 0 → (x ≡ false) × (z ≡ false)
+    by-tests true y z e = absurd (omega arith)
+    by-tests false true z e = absurd (omega arith)
+    by-tests false false true e = absurd (omega arith)
+    by-tests false false false e = (refl, refl)
+
+-- the tests that the checks make
+module _ (t c l : List ℕ) (last : ℕ) (a : Arrival) (lto : ℤ) where
+  pub record Checked : Type 0 where
+    pub lent : lentFit t c l ≡ true
+    pub asked : askedFit (a .report) (a .service) lto ≡ true
+    pub minute-fit : minuteUnfit last (a .minute .0) ≡ false
+    pub known : eqb (kindFor c (a .report)) 0 ≡ false
+
+  pub checked : checkRefusal t c l last a lto ≡ 0 → Checked
+  unfolding checkRefusal
+  checked e = by-lent (lentFit t c l) refl
+    where
+      later : lentFit t c l ≡ true → askedFit (a .report) (a .service) lto ≡ true → laterRefusal last (a .minute .0) (locationOf (a .report)) (kindFor c (a .report)) ≡ 0
+      later f g = sym (chosen _ _ _ f ∙ chosen _ _ _ g) ∙ e
+
+      by-asked : (b : Bool) → lentFit t c l ≡ true → askedFit (a .report) (a .service) lto ≡ b → Checked
+      by-asked true f g =
+          let passed = later-passed last (a .minute .0) (locationOf (a .report)) (kindFor c (a .report)) (later f g) in
+          record { lent = f; asked = g; minute-fit = passed .0; known = passed .1 }
+      by-asked false f g = absurd (let z : 9 ≡ 0 = sym (chosen _ _ _ f ∙ passed-over _ _ _ g) ∙ e in omega arith)
+
+      by-lent : (b : Bool) → lentFit t c l ≡ b → Checked
+      by-lent true f = by-asked (askedFit (a .report) (a .service) lto) f refl
+      by-lent false f = absurd (let z : 10 ≡ 0 = sym (passed-over _ _ _ f) ∙ e in omega arith)
+
+  -- what they say
+  pub asked-report : askedFit (a .report) (a .service) lto ≡ true → reportFits (a .report) ≡ true
+  unfolding askedFit
+  asked-report e = and-left (reportFits (a .report)) (serviceFits (a .service) && offsetFits lto) e
+
+  pub event-inside : lentFit t c l ≡ true → askedFit (a .report) (a .service) lto ≡ true → a .report .head .event < length c
+  event-inside lent asked = omega (arith, report-ranges (a .report) (asked-report asked) .head-in .event-lt, lent-events t c l lent)
+
+  module _ (ok : Checked) where
+    pub kinds : (1 ≤ kindFor c (a .report)) × (kindFor c (a .report) ≤ 3)
+    kinds = let some = eqb-false (kindFor c (a .report)) 0 (ok .known) in (omega arith, omega arith)
+
+    pub life-inside : 8 * typeOf (entryFor c (a .report)) + a .report .duration < length l
+    life-inside = omega (arith, report-ranges (a .report) (asked-report (ok .asked)) .duration-lt, lent-lives t c l (ok .lent))
+
+    ends : (1 ≤ expiryFor c l a lto) × (expiryFor c l a lto < 0x1_0000_0000)
+    ends = expiry-fits (a .minute .0) lto (lifeFor c l (a .report)) (minute-fits last (a .minute .0) (ok .minute-fit) .1) (life-short t c l (ok .lent) (8 * typeOf (entryFor c (a .report)) + a .report .duration) life-inside)
+
+    pub expiry-short : expiryFor c l a lto < 0x1_0000_0000
+    expiry-short = ends .1
+
+    pub can-make : kindFor c (a .report) ≡ 1 → canMake (a .report) (a .service) (classFor c (a .report)) (expiryFor c l a lto) ≡ true
+    unfolding canMake askedFit
+    can-make kind =
+        let class = classFor c (a .report) in
+        let both : (x y : Bool) → x ≡ true → y ≡ true → x && y ≡ true = λ x y e f. ap₂ (λ (u v : Bool). u && v) e f in
+        let service = and-left (serviceFits (a .service)) (offsetFits lto) (and-right (reportFits (a .report)) (serviceFits (a .service) && offsetFits lto) (ok .asked)) in
+        let some = ordinary-class (entryFor c (a .report)) (lent-entry t c l (ok .lent) (a .report .head .event) (event-inside (ok .lent) (ok .asked))) kind in
+        both _ _ (both _ _ service (both _ _ (both _ _ (le-leb 1 class some) (le-leb class 63 (omega arith))) (le-leb 1 (expiryFor c l a lto) (ends .0)))) (asked-report (ok .asked))
+
+    pub record-fits : kindFor c (a .report) ≡ 1 → wellFormed (recordFor c l a lto) ≡ true
+    record-fits kind = made-fits (a .report) (a .service) (classFor c (a .report)) (expiryFor c l a lto) (can-make kind) expiry-short

@@ -1,0 +1,150 @@
+-- By the kind of event.
+use Prim.Native.Nat.{ℕ, _+_, _*_}
+use native.Mathlib.Omega.{arith}
+use mathlib.Core.Path.{_≡_, sym, ap, ap₂, _∙_}
+use mathlib.Core.Bool.{cond}
+use mathlib.Core.List.{List}
+use lib.IntN.{ℤ}
+use lib.ListN.{getD}
+use mir.Syntax.{w8}
+use mir.ValLaws.{toZ-ofZ}
+use Rattle.clock.specs.Time.{expiryOf}
+use Rattle.record.specs.declared.Key.{Key}
+use Rattle.record.specs.Matching.{matching}
+use Rattle.record.specs.Made.{recordOf, canMake}
+use Rattle.table.specs.declared.Arrival.{Arrival}
+use Rattle.table.specs.declared.Answer.the-variants.{Freed, Stored, Refused}
+use Rattle.table.specs.Catalogue.{typeOf, entryFor, kindFor}
+use Rattle.table.specs.Steps.{step, expiredIn, afterMatching, matchedIn, placeIn, noRoom, afterStoring}
+use Rattle.table.specs.Take.{locationOf, expiryFor}
+use Rattle.table.proofs.Lents.{lent-whole}
+use Rattle.table.proofs.Checked.{Checked, checked, event-inside, life-inside, expiry-short, can-make, kinds}
+use Rattle.table.proofs.Takes.{null-way, cancelling-way, ordinary-way}
+use borrow.Author.Needs.{needs}
+use Rattle.table.proofs.take.take_checked.Statement.{statement}
+use Rattle.table.proofs.take.take_checked.Tie as tie
+
+-- what the event's class is
+abbrev keyWith : Arrival → ℕ → Key
+keyWith v class = record { service = v .service; location = locationOf (v .report); direction = v .report .head .direction; class = class }
+
+event : tie.Need-shared-slice-read-life
+event c =
+    let s = c .before .before .before .before .before .before .before .before in
+    let a = s .args in
+    let ok = checked (a .t .now) (a .catalogue .now) (a .lives .now) (a .last .0) (a .arrival) (a .lto) (s .pre) in
+    omega (arith, event-inside (a .t .now) (a .catalogue .now) (a .lives .now) (a .last .0) (a .arrival) (a .lto) (ok .lent) (ok .asked))
+
+whole : tie.Need-free-expired-requires
+whole c κs =
+    let s = c .before .before .before .before .before .before .before .before .before .before .before in
+    let a = s .args in
+    lent-whole (a .t .now) (a .catalogue .now) (a .lives .now) (checked (a .t .now) (a .catalogue .now) (a .lives .now) (a .last .0) (a .arrival) (a .lto) (s .pre) .lent)
+
+returns : tie.Need-returns
+returns c =
+    let s = c .before .before .before .before .before .before .before .before .before .before .before .before .before .before in
+    let a = s .args in
+    let way = null-way (a .t .now) (a .catalogue .now) (a .lives .now) (a .last .0) (a .arrival) (a .lto) (s .pre) (lent-whole (a .t .now) (a .catalogue .now) (a .lives .now) (checked (a .t .now) (a .catalogue .now) (a .lives .now) (a .last .0) (a .arrival) (a .lto) (s .pre) .lent)) (sym (c .before .before .before .before .before .kind .ensures) ∙ c .before .before .before .before .if1 .taken) in
+    let f = c .before .before .free-expired .ensures in
+    (f .0 ∙ way .0, f .1 ∙ way .1)
+
+whole-2 : tie.Need-take-cancelling-requires
+whole-2 c κs =
+    let s = c .before .before .before .before .before .before .before .before .before .before .before .before .before .before in
+    let a = s .args in
+    lent-whole (a .t .now) (a .catalogue .now) (a .lives .now) (checked (a .t .now) (a .catalogue .now) (a .lives .now) (a .last .0) (a .arrival) (a .lto) (s .pre) .lent)
+
+returns-2 : tie.Need-returns-2
+returns-2 c =
+    let s = c .before .before .before .before .before .before .before .before .before .before .before .before .before .before .before .before .before in
+    let a = s .args in
+    let t = a .t .now in
+    let m = a .arrival .minute .0 in
+    let way = cancelling-way t (a .catalogue .now) (a .lives .now) (a .last .0) (a .arrival) (a .lto) (s .pre) (lent-whole t (a .catalogue .now) (a .lives .now) (checked t (a .catalogue .now) (a .lives .now) (a .last .0) (a .arrival) (a .lto) (s .pre) .lent)) (sym (c .before .before .before .before .before .before .before .before .kind .ensures) ∙ c .before .before .before .before .if2 .taken) in
+    let f = c .before .before .take-cancelling .ensures in
+    let class = c .before .before .before .before .before .class .ensures in (
+      f .0 ∙ ap (λ (n : ℕ). step m (Freed (expiredIn m t) (matchedIn m (matching (keyWith (a .arrival) n)) t))) class ∙ way .0,
+      f .1 ∙ ap (λ (n : ℕ). afterMatching m (matching (keyWith (a .arrival) n)) t) class ∙ way .1,
+    )
+
+life : tie.Need-shared-slice-read-life-2
+life c =
+    let s = c .before .before .before .before .before .before .before .before .before .before .before .before .before .before .before .before in
+    let a = s .args in
+    let ok = checked (a .t .now) (a .catalogue .now) (a .lives .now) (a .last .0) (a .arrival) (a .lto) (s .pre) in
+    omega (arith, c .before .before .duration-type .ensures, life-inside (a .t .now) (a .catalogue .now) (a .lives .now) (a .last .0) (a .arrival) (a .lto) ok)
+
+-- when the report ends, as the code finds it
+ends-at : (v : Arrival) (k l : List ℕ) (lto z : ℤ) (n expiry : ℕ) → z ≡ lto → n ≡ typeOf (entryFor k (v .report)) → expiry ≡ expiryOf (v .minute .0) z (getD l (8 * n + v .report .duration) 0) → expiry ≡ expiryFor k l v lto
+ends-at v k l lto z n expiry e f g = g ∙ ap₂ (λ (x : ℤ) (y : ℕ). expiryOf (v .minute .0) x (getD l (8 * y + v .report .duration) 0)) e f
+
+ends : tie.Need-cast-t33
+ends c =
+    let s = c .before .before .before .before .before .before .before .before .before .before .before .before .before .before .before .before .before in
+    let a = s .args in
+    let ok = checked (a .t .now) (a .catalogue .now) (a .lives .now) (a .last .0) (a .arrival) (a .lto) (s .pre) in
+    let e = ends-at (a .arrival) (a .catalogue .now) (a .lives .now) (a .lto) _ _ (c .expiry .result) (toZ-ofZ w8 (a .lto) (s .fits .lto)) (c .before .before .before .duration-type .ensures) (c .expiry .ensures) in
+    omega (arith, e, expiry-short (a .t .now) (a .catalogue .now) (a .lives .now) (a .last .0) (a .arrival) (a .lto) ok)
+
+-- an event that is neither null nor cancelling is ordinary
+is-ordinary : (t k l : List ℕ) (last : ℕ) (v : Arrival) (lto : ℤ) (n : ℕ) → Checked t k l last v lto → n ≡ kindFor k (v .report) → (n ≡ 3 → ⊥) → (n ≡ 2 → ⊥) → kindFor k (v .report) ≡ 1
+is-ordinary t k l last v lto n ok e not-3 not-2 = omega (arith, kinds t k l last v lto ok)
+
+take-ordinary-requires : tie.Need-take-ordinary-requires
+take-ordinary-requires c κs =
+    let s = c .before .before .before .before .before .before .before .before .before .before .before .before .before .before .before .before .before .before in
+    let a = s .args in
+    let ok = checked (a .t .now) (a .catalogue .now) (a .lives .now) (a .last .0) (a .arrival) (a .lto) (s .pre) in
+    let is-1 = is-ordinary (a .t .now) (a .catalogue .now) (a .lives .now) (a .last .0) (a .arrival) (a .lto) _ ok (c .before .before .before .before .before .before .before .before .before .kind .ensures) (c .before .before .before .before .before .before .before .before .if1 .left) (c .before .before .before .before .before .if2 .left) in
+    let e = ends-at (a .arrival) (a .catalogue .now) (a .lives .now) (a .lto) _ _ (c .before .expiry .result) (toZ-ofZ w8 (a .lto) (s .fits .lto)) (c .before .before .before .before .duration-type .ensures) (c .before .expiry .ensures) in (
+      lent-whole (a .t .now) (a .catalogue .now) (a .lives .now) (ok .lent),
+      ap₂ (canMake (a .arrival .report) (a .arrival .service)) (c .before .before .before .before .before .before .class .ensures) e ∙ can-make (a .t .now) (a .catalogue .now) (a .lives .now) (a .last .0) (a .arrival) (a .lto) ok is-1,
+    )
+
+returns-3 : tie.Need-returns-3
+returns-3 c =
+    let s = c .before .before .before .before .before .before .before .before .before .before .before .before .before .before .before .before .before .before .before .before .before in
+    let a = s .args in
+    let t = a .t .now in
+    let v = a .arrival in
+    let m = v .minute .0 in
+    let ok = checked t (a .catalogue .now) (a .lives .now) (a .last .0) v (a .lto) (s .pre) in
+    let is-1 = is-ordinary t (a .catalogue .now) (a .lives .now) (a .last .0) v (a .lto) _ ok (c .before .before .before .before .before .before .before .before .before .before .before .before .kind .ensures) (c .before .before .before .before .before .before .before .before .before .before .before .if1 .left) (c .before .before .before .before .before .before .before .before .if2 .left) in
+    let e = ends-at v (a .catalogue .now) (a .lives .now) (a .lto) _ _ (c .before .before .before .before .expiry .result) (toZ-ofZ w8 (a .lto) (s .fits .lto)) (c .before .before .before .before .before .before .before .duration-type .ensures) (c .before .before .before .before .expiry .ensures) in
+    let way = ordinary-way t (a .catalogue .now) (a .lives .now) (a .last .0) v (a .lto) (s .pre) (lent-whole t (a .catalogue .now) (a .lives .now) (ok .lent)) is-1 in
+    let f = c .before .before .take-ordinary .ensures in
+    let class = c .before .before .before .before .before .before .before .before .before .class .ensures in (
+      f .0
+          ∙ ap (λ (n : ℕ). cond (noRoom m (matching (keyWith v n)) t) (step (a .last .0) (Refused 14)) (step m (Stored (expiredIn m t) (matchedIn m (matching (keyWith v n)) t) (placeIn m (matching (keyWith v n)) t)))) class
+          ∙ way .0,
+      f .1 ∙ ap₂ (λ (n y : ℕ). cond (noRoom m (matching (keyWith v n)) t) t (afterStoring m (matching (keyWith v n)) (recordOf (v .report) (v .service) n y) t)) class e ∙ way .1,
+    )
+
+pub take-checked-spec : {M : Type 1} → statement M
+take-checked-spec =
+    tie.close
+    (tie.spec
+    (search needs)
+    (search needs)
+    event
+    (search needs)
+    whole
+    (search needs)
+    returns
+    (search needs)
+    whole-2
+    (search needs)
+    returns-2
+    (search needs)
+    (search needs)
+    (search needs)
+    (search needs)
+    (search needs)
+    (search needs)
+    life
+    (search needs)
+    ends
+    take-ordinary-requires
+    (search needs)
+    returns-3)

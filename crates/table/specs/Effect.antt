@@ -1,0 +1,41 @@
+-- Demand 2 of the table: what a call on it does (document 01, "The message table").
+use Prim.Native.Nat.{ℕ, _≤_, _<_}
+use mathlib.Core.Path.{_≡_}
+use mathlib.Core.Bool.{true, false, not}
+use mathlib.Core.List.{List, map}
+use lib.ListN.{length, set}
+use Rattle.record.specs.Layout.{isFree}
+use Rattle.record.specs.Gone.{expired, either, onlySecond, freedIf}
+use Rattle.table.specs.declared.Step.{Step}
+use Rattle.table.specs.declared.Answer.the-variants.{Freed, Stored, Refused}
+use Rattle.table.specs.Records.{records, countIf, firstOf}
+use Rattle.table.specs.Steps.{step}
+use Rattle.table.specs.Calls.{Call, minuteOf, matchOf, storesOf, madeOf}
+
+-- the records with exactly those freed that have expired or match
+abbrev pub freedBy : List ℕ → Call → List (List ℕ) → List (List ℕ)
+freedBy catalogue call rs = map (freedIf (either (expired (minuteOf call)) (matchOf catalogue call))) rs
+
+-- how many have expired, and how many match that have not
+abbrev pub expiredBy : Call → List (List ℕ) → ℕ
+expiredBy call rs = countIf (expired (minuteOf call)) rs
+
+abbrev pub matchedBy : List ℕ → Call → List (List ℕ) → ℕ
+matchedBy catalogue call rs = countIf (onlySecond (expired (minuteOf call)) (matchOf catalogue call)) rs
+
+-- a call on a table t, the clock at `last`: the clock and the answer, and the table afterwards
+pub data Effect (catalogue t : List ℕ) (last : ℕ) (call : Call) : Step → List ℕ → Type 0 where
+  -- refused: the table and the clock are as they were
+  refuses : (n : ℕ) → Effect catalogue t last call (step last (Refused n)) t
+  -- exactly the records are freed that have expired or match, and they are counted
+  frees : {after : List ℕ} → storesOf catalogue call ≡ false → last ≤ minuteOf call → records after ≡ freedBy catalogue call (records t)
+      → Effect catalogue t last call (step (minuteOf call) (Freed (expiredBy call (records t)) (matchedBy catalogue call (records t)))) after
+  -- and the report's record is stored in the lowest-numbered place that is free then; every other record is as it was
+  stores : {after : List ℕ} (place : ℕ) → storesOf catalogue call ≡ true → last ≤ minuteOf call
+      → place ≡ firstOf isFree (freedBy catalogue call (records t)) → place < length (records t)
+      → records after ≡ set (freedBy catalogue call (records t)) place (madeOf catalogue call)
+      → Effect catalogue t last call (step (minuteOf call) (Stored (expiredBy call (records t)) (matchedBy catalogue call (records t)) place)) after
+
+-- the records that are used
+abbrev pub usedIn : List ℕ → ℕ
+usedIn t = countIf (λ r. not (isFree r)) (records t)

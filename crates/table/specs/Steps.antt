@@ -1,0 +1,45 @@
+-- The three steps of a call on the table (document 01, "The message table"; ISO 14819-1, clauses 6.4 and 6.5). Step 2 is for any test of
+-- what matches: for a call that matches nothing, it never holds.
+use Prim.Native.Nat.{ℕ, _/_}
+use mathlib.Core.Bool.{Bool, _||_}
+use mathlib.Core.List.{List}
+use lib.ListN.{length}
+use lib.Dec.{leb, ltb}
+use Rattle.clock.specs.Time.{largest}
+use Rattle.record.specs.Layout.{recordSize}
+use Rattle.record.specs.Gone.{expired}
+use Rattle.table.specs.declared.Step.{Step}
+use Rattle.table.specs.declared.Answer.{Answer}
+use Rattle.table.specs.Records.{freeWhere, countWhere, lowestFree, stored}
+
+-- the state after a call, and its answer
+abbrev pub step : ℕ → Answer → Step
+step last answer = record { last = record { 0 = last }; answer = answer }
+
+-- a minute below the last one or too large
+abbrev pub minuteUnfit : ℕ → ℕ → Bool
+minuteUnfit last minute = ltb minute last || ltb largest minute
+
+-- step 1: the records that have expired are freed, so many
+abbrev pub afterExpiry : ℕ → List ℕ → List ℕ
+afterExpiry minute t = freeWhere (expired minute) t
+
+abbrev pub expiredIn : ℕ → List ℕ → ℕ
+expiredIn minute t = countWhere (expired minute) t
+
+-- step 2: of those that remain the ones that match are freed, so many
+unfoldable pub afterMatching : ℕ → (List ℕ → Bool) → List ℕ → List ℕ
+afterMatching minute match t = freeWhere match (afterExpiry minute t)
+
+unfoldable pub matchedIn : ℕ → (List ℕ → Bool) → List ℕ → ℕ
+matchedIn minute match t = countWhere match (afterExpiry minute t)
+
+-- step 3: the place for a report is the lowest-numbered record that is free then; where there is none, there is no room
+unfoldable pub placeIn : ℕ → (List ℕ → Bool) → List ℕ → ℕ
+placeIn minute match t = lowestFree (afterMatching minute match t)
+
+abbrev pub noRoom : ℕ → (List ℕ → Bool) → List ℕ → Bool
+noRoom minute match t = leb (length t / recordSize) (placeIn minute match t)
+
+unfoldable pub afterStoring : ℕ → (List ℕ → Bool) → List ℕ → List ℕ → List ℕ
+afterStoring minute match r t = stored (afterMatching minute match t) (placeIn minute match t) r
