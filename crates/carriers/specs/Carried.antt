@@ -1,4 +1,4 @@
--- The words that a record carries (document 01, "The listing program").
+-- The words that a frame carries (document 01, "The listing program").
 use Prim.Native.Nat.{ℕ}
 use mathlib.Core.Bool.{cond}
 use mathlib.Core.List.{List, [], _∷_}
@@ -13,12 +13,14 @@ use Rattle.fig.specs.declared.Reading as figReading
 use Rattle.fig.specs.declared.Reading.the-variants as fig
 use Rattle.fig.specs.Format.{headerLength}
 use Rattle.fig.specs.Read.{readFig}
+use Rattle.fig.specs.Read as figRead
 use Rattle.drm.specs.declared.Reading as drmReading
 use Rattle.drm.specs.declared.Reading.the-variants as drm
 use Rattle.drm.specs.Format.{wordWidth}
-use Rattle.drm.specs.Check.{payload}
+use Rattle.crc.specs.Block.{payload}
 use Rattle.drm.specs.Payload.{wordsAt}
 use Rattle.drm.specs.Read.{readUnit}
+use Rattle.drm.specs.Read as drmRead
 use Rattle.carriers.specs.declared.Carried.{Carried}
 use Rattle.carriers.specs.declared.Carried.the-variants as code
 
@@ -55,15 +57,29 @@ carriedBy kind run body =
     (cond (eqb kind 3) (byUnit (readUnit body mostWords) body)
     (refuses 2)))
 
--- the repeat rule's run goes on over all RDS records, and others leave it
+-- the repeat rule's run goes on over all RDS frames, and others leave it
 unfoldable pub runAfter : ℕ → Run → List ℕ → Run
 runAfter kind run body = cond (eqb kind 1) (received run body .run) run
 
--- the code's answer, with the buffer beside it
-unfoldable pub held : Carried → List ℕ → Carries
-held (code.Words n) out = gives (take n out)
-held (code.Refused n) out = refuses n
+-- the lent words afterwards: a valid word stands in the first cell
+unfoldable pub rdsAfter : Answer → List ℕ → List ℕ
+rdsAfter rds.Nothing out = out
+rdsAfter (rds.Valid w) out = w ∷ drop 1 out
+rdsAfter (rds.Refused n) out = out
 
-unfoldable pub heldCount : Carried → ℕ
-heldCount (code.Words n) = n
-heldCount (code.Refused n) = 0
+-- the words of a FIG and of a unit stand where their readers put them; words of 16 bits too, though none of them counts
+unfoldable pub wordsAfter : ℕ → Run → List ℕ → List ℕ → List ℕ
+wordsAfter kind run body out =
+    cond (eqb kind 1) (rdsAfter (received run body .answer) out)
+    (cond (eqb kind 2) (figRead.wordsAfter (readFig body mostWords) (drop headerLength body) out)
+    (cond (eqb kind 3) (drmRead.wordsAfter (readUnit body mostWords) (flat 8 (payload body)) out)
+    out))
+
+-- the code's answer, with the buffer beside it
+unfoldable pub carriedIn : Carried → List ℕ → Carries
+carriedIn (code.Words n) out = gives (take n out)
+carriedIn (code.Refused n) out = refuses n
+
+unfoldable pub countOf : Carried → ℕ
+countOf (code.Words n) = n
+countOf (code.Refused n) = 0

@@ -1,23 +1,26 @@
-// The words that a record carries, by its kind.
+// The words that a frame carries, by its kind.
 ghost use mathlib.Core.Path.{_≡_};
 ghost use Prim.Native.Nat.{_≤_};
-ghost use lib.ListN.{length};
+ghost use lib.ListN.{length, drop};
+ghost use Rattle.bits.specs.Fields.{flat};
+ghost use Rattle.crc.specs.Block.{payload};
 ghost use Rattle.rds.specs.Repeat.{received};
-ghost use Rattle.fig.specs.Read.{readFig};
-ghost use Rattle.drm.specs.Read.{readUnit};
-ghost use Rattle.carriers.specs.Carried.{mostWords, held, heldCount, byRds, byFig, byUnit, carriedBy, runAfter};
-use drm::Unit;
+ghost use Rattle.fig.specs.Format.{headerLength};
+ghost use Rattle.fig.specs.Read.{readFig, wordsAfter as Fig·wordsAfter};
+ghost use Rattle.drm.specs.Read.{readUnit, wordsAfter as Drm·wordsAfter};
+ghost use Rattle.carriers.specs.Carried.{mostWords, carriedIn, countOf, byRds, byFig, byUnit, carriedBy, runAfter, rdsAfter, wordsAfter};
+use drm::DataUnit;
 use fig::Fig;
 use rds::Answer;
 use rds::Run;
 
-// What a record carries: a number of words, in a buffer beside it, or a refusal.
+// What a frame carries: a number of words, in a buffer beside it, or a refusal.
 pub enum Carried {
     Words(usize),
     Refused(u8),
 }
 
-// What a record carries, and the run after it.
+// What a frame carries, and the run after it.
 pub struct Reception {
     pub run: Run,
     pub carried: Carried,
@@ -30,15 +33,17 @@ impl Carried {
     pub const FIG: usize = 2;
 
     pub const DRM: usize = 3;
-    // The most words of a record.
+    // The most words of a frame.
     pub const WORDS: usize = 27;
 }
 
-// Reads the words of a record's body, by its kind, into the first cells of a buffer.
+// Reads the words of a frame's body, by its kind, into the first cells of a buffer. A kind other than the three is refused (2). The cells
+// after the words stay, and on a refusal all cells do.
 pub fn receive(run: Run, kind: usize, body: &[u8], words: &mut [u64; Carried::WORDS]) -> Reception
     ensures { λ r. ⌜ r .run ≡ runAfter kind run (now (body .entry)) ⌝ }
-    ensures { λ r. ⌜ held (r .carried) (now (words .exit)) ≡ carriedBy kind run (now (body .entry)) ⌝ }
-    ensures { λ r. ⌜ (heldCount (r .carried) ≤ mostWords) × (length (now (words .exit)) ≡ mostWords) ⌝ }
+    ensures { λ r. ⌜ carriedIn (r .carried) (now (words .exit)) ≡ carriedBy kind run (now (body .entry)) ⌝ }
+    ensures { λ r. ⌜ (countOf (r .carried) ≤ mostWords) × (length (now (words .exit)) ≡ mostWords) ⌝ }
+    ensures { λ _. ⌜ now (words .exit) ≡ wordsAfter kind run (now (body .entry)) (now (words .entry)) ⌝ }
 {
     let out: &mut [u64] = words;
     if kind == Carried::RDS {
@@ -66,8 +71,9 @@ pub fn receive(run: Run, kind: usize, body: &[u8], words: &mut [u64; Carried::WO
 fn from_rds(run: Run, group: &[u8], words: &mut [u64]) -> Reception
     requires { ⌜ length (now words) ≡ mostWords ⌝ }
     ensures { λ r. ⌜ r .run ≡ received run (now (group .entry)) .run ⌝ }
-    ensures { λ r. ⌜ held (r .carried) (now (words .exit)) ≡ byRds (received run (now (group .entry)) .answer) ⌝ }
-    ensures { λ r. ⌜ heldCount (r .carried) ≤ mostWords ⌝ }
+    ensures { λ r. ⌜ carriedIn (r .carried) (now (words .exit)) ≡ byRds (received run (now (group .entry)) .answer) ⌝ }
+    ensures { λ r. ⌜ countOf (r .carried) ≤ mostWords ⌝ }
+    ensures { λ _. ⌜ now (words .exit) ≡ rdsAfter (received run (now (group .entry)) .answer) (now (words .entry)) ⌝ }
 {
     let step = run.receive(group);
     let next = step.run;
@@ -94,8 +100,9 @@ fn from_rds(run: Run, group: &[u8], words: &mut [u64]) -> Reception
 // The 37-bit words of a FIG; words of 16 bits are none.
 fn from_fig(body: &[u8], words: &mut [u64]) -> Carried
     requires { ⌜ length (now words) ≡ mostWords ⌝ }
-    ensures { λ r. ⌜ held r (now (words .exit)) ≡ byFig (readFig (now (body .entry)) mostWords) (now (body .entry)) ⌝ }
-    ensures { λ r. ⌜ heldCount r ≤ mostWords ⌝ }
+    ensures { λ r. ⌜ carriedIn r (now (words .exit)) ≡ byFig (readFig (now (body .entry)) mostWords) (now (body .entry)) ⌝ }
+    ensures { λ r. ⌜ countOf r ≤ mostWords ⌝ }
+    ensures { λ _. ⌜ now (words .exit) ≡ Fig·wordsAfter (readFig (now (body .entry)) mostWords) (drop headerLength (now (body .entry))) (now (words .entry)) ⌝ }
 {
     let reading = Fig::read(body, words);
     match reading {
@@ -113,10 +120,11 @@ fn from_fig(body: &[u8], words: &mut [u64]) -> Carried
 // The user words of a DRM data unit.
 fn from_drm(body: &[u8], words: &mut [u64]) -> Carried
     requires { ⌜ length (now words) ≡ mostWords ⌝ }
-    ensures { λ r. ⌜ held r (now (words .exit)) ≡ byUnit (readUnit (now (body .entry)) mostWords) (now (body .entry)) ⌝ }
-    ensures { λ r. ⌜ heldCount r ≤ mostWords ⌝ }
+    ensures { λ r. ⌜ carriedIn r (now (words .exit)) ≡ byUnit (readUnit (now (body .entry)) mostWords) (now (body .entry)) ⌝ }
+    ensures { λ r. ⌜ countOf r ≤ mostWords ⌝ }
+    ensures { λ _. ⌜ now (words .exit) ≡ Drm·wordsAfter (readUnit (now (body .entry)) mostWords) (flat 8 (payload (now (body .entry)))) (now (words .entry)) ⌝ }
 {
-    let reading = Unit::read(body, words);
+    let reading = DataUnit::read(body, words);
     match reading {
         drm::Reading::Taken { unit: _, count } => Carried::Words(count),
         drm::Reading::Refused(n) => Carried::Refused(n),

@@ -1,10 +1,12 @@
-// The check word over whole bytes, a byte at a time.
+// The check word over whole bytes, a byte at a time, and blocks that end with it.
 ghost use mathlib.Core.Path.{_≡_};
 ghost use mathlib.Core.Bool.{false};
 ghost use Prim.Native.Nat.{_*_, _<_};
 ghost use lib.ListN.{replicate};
 ghost use Rattle.bits.specs.Bits.{bits};
 ghost use Rattle.crc.specs.Register.{entered, checkWord};
+
+pub mod block;
 
 // The check word of some bytes, the highest bit of each first.
 pub fn check_word(s: &[u8]) -> u16

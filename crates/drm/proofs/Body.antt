@@ -44,8 +44,8 @@ module _ (a : ℕ) (l : List Bool) (inside : a ≤ length l) where
   -- the padding is the last bits
   pub padding-stretch : stretch (length l - (length l - a) % 37) ((length l - a) % 37) l ≡ padding a l
   padding-stretch =
-      let place : length l - (length l - a) % 37 ≡ a + countFrom a l * 37 = omega (arith, all-bits) in
-      ap (λ (n : ℕ). stretch n ((length l - a) % 37) l) place
+      let from : length l - (length l - a) % 37 ≡ a + countFrom a l * 37 = omega (arith, all-bits) in
+      ap (λ (n : ℕ). stretch n ((length l - a) % 37) l) from
       ∙ take-all ((length l - a) % 37) (padding a l) (omega (arith, length-drop (a + countFrom a l * 37) l, all-bits))
 
 -- the checks as the code makes them, by the bytes
@@ -65,11 +65,14 @@ zeros a p h =
     sym (ap (λ (n : ℕ). allZero (stretch (n - (n - a) % 37) ((n - a) % 37) (flat 8 p))) (sym (length-flat 8 p))
     ∙ ap allZero (padding-stretch a (flat 8 p) (omega (arith, length-flat 8 p))))
 
--- words that are not refused lie within the bits, and there is room for them
-pub words-fit : (a : ℕ) (l : List Bool) (room : ℕ) → wordsRefusal a l room ≡ 0 → (a ≤ length l) × (countFrom a l ≤ room)
+-- words that are not refused lie within the bits, there is room for them, and at most 7 bits are left over
+pub words-fit : (a : ℕ) (l : List Bool) (room : ℕ) → wordsRefusal a l room ≡ 0 → (a ≤ length l) × (countFrom a l ≤ room) × ((length l - a) % 37 ≤ 7)
 unfolding wordsRefusal
 words-fit a l room e =
     let p = passed (leb a (length l)) 0 _ e in
     let q = passed (leb ((length l - a) % 37) 7) 0 _ (p .1) in
-    let r = passed (allZero (padding a l)) 2 _ (q .1) in
-    (leb-true a (length l) (p .0), leb-true (countFrom a l) room (passed (leb (countFrom a l) room) 14 0 (r .1) .0))
+    let r = passed (allZero (padding a l)) 2 _ (q .1) in (
+      leb-true a (length l) (p .0),
+      leb-true (countFrom a l) room (passed (leb (countFrom a l) room) 14 0 (r .1) .0),
+      leb-true ((length l - a) % 37) 7 (q .0),
+    )

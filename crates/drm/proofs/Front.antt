@@ -5,7 +5,7 @@ use native.Mathlib.Omega.{arith}
 use mathlib.Core.Path.{_≡_, sym, ap, ap₂, _∙_}
 use mathlib.Core.Bool.{Bool, true, false, cond}
 use mathlib.Core.List.{List}
-use lib.ListN.{length, getD, drop, length-take, length-drop}
+use lib.ListN.{length, drop, length-take, length-drop}
 use lib.Seq.{length-take-le}
 use lib.Pow.{pow-mono}
 use lib.Dec.{eqb, lit<}
@@ -16,7 +16,7 @@ use Rattle.bits.specs.Overlay.{stretch}
 use Rattle.bits.proofs.Value.{val-lt, length-bits, bits-val}
 use Rattle.bits.proofs.Fields.{length-flat}
 use Rattle.bits.proofs.Formats.{unpack-val}
-use Rattle.drm.specs.Format.{startFormat, headerFormat}
+use Rattle.drm.specs.Format.{startFormat, tmchiIn, headerFormat, systemIn}
 use Rattle.drm.specs.Payload.{start, tmchi, uaFlag, aid, headerAt, headerBits, header, systemCount}
 use Rattle.drm.specs.Read.{fieldRefusal}
 
@@ -47,7 +47,7 @@ module _ (l : List Bool) (long : 48 ≤ length l) where
   start-of = ap (unpack startFormat) (bits-val (stretch 0 6 l) 6 start-length)
 
   tmchi-of : tmchi l ≡ val (stretch 0 6 l) / 32 % 2
-  tmchi-of = ap (λ (f : List ℕ). getD f 0 0) (unpack-val startFormat (stretch 0 6 l) start-length)
+  tmchi-of = ap tmchiIn (unpack-val startFormat (stretch 0 6 l) start-length)
 
   -- the test of TMCHI as the code makes it
   pub no-header : (n : ℕ) → n ≡ val (stretch 0 6 l) → n / 32 % 2 ≡ 0 → eqb (tmchi l) 0 ≡ true
@@ -68,7 +68,7 @@ module _ (l : List Bool) (long : 48 ≤ length l) where
   header-of = ap (unpack headerFormat) (bits-val (headerBits l) 24 header-length)
 
   pub count-of : systemCount l ≡ val (headerBits l) % 4
-  count-of = ap (λ (f : List ℕ). getD f 4 0) (unpack-val headerFormat (headerBits l) header-length) ∙ ap (λ (n : ℕ). n % 4) (div-one (val (headerBits l)))
+  count-of = ap systemIn (unpack-val headerFormat (headerBits l) header-length) ∙ ap (λ (n : ℕ). n % 4) (div-one (val (headerBits l)))
 
   -- the refusal of the fields, by their numbers
   pub fields-of : (n s a h : ℕ) → s ≡ val (stretch 0 6 l) → a ≡ aid l → h ≡ val (headerBits l)

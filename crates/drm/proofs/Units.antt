@@ -13,7 +13,7 @@ use Rattle.bits.proofs.Choice.{chosen, passed-over}
 use Rattle.bits.proofs.Value.{val-bits-lt}
 use Rattle.bits.proofs.Fields.{length-flat}
 use Rattle.bits.proofs.Checks.{neither}
-use Rattle.drm.specs.declared.Unit.{Unit}
+use Rattle.drm.specs.declared.DataUnit.{DataUnit}
 use Rattle.drm.specs.declared.Reading.the-variants.{Taken}
 use Rattle.drm.specs.Format.{startFormat, headerFormat}
 use Rattle.drm.specs.Payload.{start, tmchi, headerAt, headerBits, header, systemCount, systemAt, systemWords, wordsAt, countFrom, unitOf}
@@ -80,7 +80,7 @@ lies p space at e h =
       room = subst (λ (n : ℕ). n ≤ space) (ap₂ (λ (n m : ℕ). (n - m) / 37) (length-flat 8 p) (sym e)) (fit .1);
     }
 
-module _ (p : List ℕ) (at : ℕ) (e : at ≡ wordsAt (flat 8 p)) (u : Unit) where
+module _ (p : List ℕ) (at : ℕ) (e : at ≡ wordsAt (flat 8 p)) (u : DataUnit) where
   same-count : (length p * 8 - at) / 37 ≡ countFrom (wordsAt (flat 8 p)) (flat 8 p)
   same-count = ap₂ (λ (n m : ℕ). (n - m) / 37) (sym (length-flat 8 p)) e
 

@@ -1,4 +1,3 @@
 pub mod Format
-pub mod Check
 pub mod Payload
 pub mod Read

@@ -7,8 +7,8 @@ use lib.Dec.{eqb}
 use Rattle.bits.specs.Bits.{bits, val}
 use Rattle.bits.specs.Fields.{words, unpack}
 use Rattle.bits.specs.Overlay.{stretch}
-use Rattle.drm.specs.declared.Unit.{Unit}
-use Rattle.drm.specs.Format.{startFormat, headerFormat, alertC, wordWidth, systemWidth}
+use Rattle.drm.specs.declared.DataUnit.{DataUnit}
+use Rattle.drm.specs.Format.{startFormat, tmchiIn, idIn, headerFormat, servicesIn, countryIn, eccIn, ltoIn, systemIn, alertC, wordWidth, systemWidth}
 use Rattle.lto.specs.Offset.{ltoOf}
 
 -- TMCHI, rfu, Short ID
@@ -16,7 +16,7 @@ abbrev pub start : List Bool → List ℕ
 start l = unpack startFormat (stretch 0 6 l)
 
 abbrev pub tmchi : List Bool → ℕ
-tmchi l = getD (start l) 0 0
+tmchi l = tmchiIn (start l)
 
 -- the UA flag, which comes after rfa; 0 where there is no header
 unfoldable pub uaFlag : List Bool → ℕ
@@ -39,7 +39,7 @@ abbrev pub header : List Bool → List ℕ
 header l = unpack headerFormat (headerBits l)
 
 abbrev pub systemCount : List Bool → ℕ
-systemCount l = getD (header l) 4 0
+systemCount l = systemIn (header l)
 
 -- where the system words lie, and these words
 abbrev pub systemAt : List Bool → ℕ
@@ -61,15 +61,15 @@ abbrev pub padding : ℕ → List Bool → List Bool
 padding a l = drop (a + countFrom a l * wordWidth) l
 
 -- the fields of the start and of the header, and the system words; what there is none of is 0
-unfoldable pub unitOf : List ℕ → List ℕ → List ℕ → Unit
+unfoldable pub unitOf : List ℕ → List ℕ → List ℕ → DataUnit
 unitOf f h ws = record {
-  tmchi = getD f 0 0;
-  id = getD f 2 0;
-  services = getD h 0 0;
-  country = getD h 1 0;
-  ecc = getD h 2 0;
-  lto = ltoOf (getD h 3 0);
-  system = getD h 4 0;
+  tmchi = tmchiIn f;
+  id = idIn f;
+  services = servicesIn h;
+  country = countryIn h;
+  ecc = eccIn h;
+  lto = ltoOf (ltoIn h);
+  system = systemIn h;
   first = getD ws 0 0;
   second = getD ws 1 0;
   third = getD ws 2 0;

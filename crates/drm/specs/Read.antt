@@ -2,16 +2,15 @@
 use Prim.Native.Nat.{ℕ, _-_, _%_}
 use mathlib.Core.Bool.{Bool, _&&_}
 use mathlib.Core.List.{List, _++_}
-use lib.ListN.{length, getD, drop}
+use lib.ListN.{length, drop}
 use lib.Dec.{leb, eqb}
 use Rattle.bits.specs.Bits.{allZero}
 use Rattle.bits.specs.Fields.{flat, words}
 use Rattle.bits.specs.Checks.{must, firstOf, unless}
-use Rattle.crc.specs.Register.{checkWord}
+use Rattle.crc.specs.Block.{payload, isChecked}
 use Rattle.drm.specs.declared.Reading.{Reading}
 use Rattle.drm.specs.declared.Reading.the-variants.{Taken, Refused}
-use Rattle.drm.specs.Format.{shortest, longest, wordWidth, alertC}
-use Rattle.drm.specs.Check.{payload, checkIn}
+use Rattle.drm.specs.Format.{shortest, longest, wordWidth, tmchiIn, rfuIn, systemIn, alertC}
 use Rattle.drm.specs.Payload.{start, aid, header, systemWords, wordsAt, countFrom, padding, unitOf}
 
 -- 8 to 128 bytes
@@ -21,9 +20,9 @@ lengthFits n = leb shortest n && leb n longest
 -- rfu, the AID, and one system word or more in a header (m is at least TMCHI)
 unfoldable pub fieldRefusal : List ℕ → ℕ → List ℕ → ℕ
 fieldRefusal f aid h =
-    must (eqb (getD f 1 0) 0) 3
+    must (eqb (rfuIn f) 0) 3
     (must (eqb aid alertC) 2
-    (must (leb (getD f 0 0) (getD h 4 0)) 3
+    (must (leb (tmchiIn f) (systemIn h)) 3
     0))
 
 -- with user words from bit a on: a header that fits, at most 7 bits left over, zero padding, room for the words
@@ -43,7 +42,7 @@ payloadRefusal l room = firstOf (fieldRefusal (start l) (aid l) (header l)) (wor
 unfoldable pub unitRefusal : List ℕ → ℕ → ℕ
 unitRefusal s room =
     must (lengthFits (length s)) 1
-    (must (eqb (checkIn s) (checkWord (payload s))) 4
+    (must (isChecked s) 4
     (payloadRefusal (flat 8 (payload s)) room))
 
 -- the unit in the bits before the check word, and the number of its user words

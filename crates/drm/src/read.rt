@@ -7,18 +7,18 @@ ghost use Rattle.bits.specs.Bits.{bits, val};
 ghost use Rattle.bits.specs.Fields.{flat, unpack, words};
 ghost use Rattle.drm.specs.Format.{startFormat, headerFormat};
 ghost use Rattle.drm.specs.Payload.{start, uaFlag, aid, headerAt, header as Payload·header, headerBits, systemWords, wordsAt, unitOf};
-ghost use Rattle.drm.specs.Check.{payload};
+ghost use Rattle.crc.specs.Block.{payload};
 ghost use Rattle.drm.specs.Read.{fieldRefusal, wordsRefusal, payloadRefusal, unitRefusal, taken as Read·taken, readUnit, wordsAfter};
+use crate::DataUnit;
 use crate::Reading;
-use crate::Unit;
-use bits::bytes::load;
 use bits::field::bits_at;
 use bits::run::words_at;
 use bits::zero::zeros_at;
-use crc::check_word;
+use crc::block::CHECK_LENGTH;
+use crc::block::is_checked;
 use lto::half_hours;
 
-impl Unit {
+impl DataUnit {
     // Reads a unit, and its user words into the first cells of a buffer. Refuses in this order: a length outside 8 to 128 (1), the
     // check word (4), rfu (3), another AID (2), a header without system words (3), one that does not fit or more than 7 bits left
     // over (1), padding (3), too small a buffer (15). A refusal leaves the buffer as it is.
@@ -28,7 +28,7 @@ impl Unit {
     {
         let refused = unit_refusal(s, out.len());
         if refused == 0 {
-            let end = s.len() - Unit::CHECK;
+            let end = s.len() - CHECK_LENGTH;
             take_payload(&s[..end], out)
         } else {
             Reading::Refused(refused)
@@ -40,9 +40,9 @@ impl Unit {
 fn unit_refusal(s: &[u8], room: usize) -> u8
     ensures { λ r. ⌜ r ≡ unitRefusal (now (s .entry)) room ⌝ }
 {
-    if (Unit::SHORTEST <= s.len()) & (s.len() <= Unit::LONGEST) {
-        let end = s.len() - Unit::CHECK;
-        if load(&s[end..]) == check_word(&s[..end]) as u64 {
+    if (DataUnit::SHORTEST <= s.len()) & (s.len() <= DataUnit::LONGEST) {
+        if is_checked(s) {
+            let end = s.len() - CHECK_LENGTH;
             payload_refusal(&s[..end], room)
         } else {
             4
@@ -72,7 +72,7 @@ fn field_refusal(start: u64, aid: u64, header: u64) -> u8
     if start / 0x10 % 2 != 0 {
         return 3;
     }
-    if aid != 0xCD46 {
+    if aid != DataUnit::ALERT_C {
         return 2;
     }
     if header % 4 < start / 0x20 % 2 {
@@ -90,12 +90,12 @@ fn words_refusal(p: &[u8], at: usize, room: usize) -> u8
     if total < at {
         return 1;
     }
-    let left = (total - at) % Unit::WIDTH;
-    if 7 < left {
+    let left = (total - at) % DataUnit::WIDTH;
+    if DataUnit::PADDING < left {
         return 1;
     }
     if zeros_at(p, total - left, left) {
-        if (total - at) / Unit::WIDTH <= room {
+        if (total - at) / DataUnit::WIDTH <= room {
             0
         } else {
             15
@@ -123,7 +123,7 @@ fn aid_of(p: &[u8]) -> u64
     ensures { λ r. ⌜ r ≡ aid (flat 8 (now (p .entry))) ⌝ }
 {
     if ua_flag(p) == 0 {
-        0xCD46
+        DataUnit::ALERT_C
     } else {
         bits_at(p, 8, 16)
     }
@@ -169,13 +169,13 @@ fn take_payload(p: &[u8], out: &mut [u64]) -> Reading
 {
     let unit = unit_in(p);
     let at = first_word(p);
-    let count = (p.len() * 8 - at) / Unit::WIDTH;
-    words_at(p, at, Unit::WIDTH, &mut out[..count]);
+    let count = (p.len() * 8 - at) / DataUnit::WIDTH;
+    words_at(p, at, DataUnit::WIDTH, &mut out[..count]);
     Reading::Taken { unit, count }
 }
 
 // The unit without its user words.
-fn unit_in(p: &[u8]) -> Unit
+fn unit_in(p: &[u8]) -> DataUnit
     requires { ⌜ (6 ≤ length (now p)) × (length (now p) ≤ 126) × (wordsAt (flat 8 (now p)) ≤ length (flat 8 (now p))) ⌝ }
     ensures { λ r. ⌜ r ≡ unitOf (start (flat 8 (now (p .entry)))) (Payload·header (flat 8 (now (p .entry)))) (systemWords (flat 8 (now (p .entry)))) ⌝ }
 {
@@ -204,10 +204,10 @@ fn system_word(p: &[u8], at: usize, m: usize, i: usize) -> u16
 }
 
 // The unit of a start, a header and system words.
-fn unit_of(start: u64, header: u64, first: u16, second: u16, third: u16) -> Unit
+fn unit_of(start: u64, header: u64, first: u16, second: u16, third: u16) -> DataUnit
     ensures { λ r. ⌜ r ≡ unitOf (unpack startFormat (bits 6 start)) (unpack headerFormat (bits 24 header)) (first ∷ second ∷ third ∷ []) ⌝ }
 {
-    Unit {
+    DataUnit {
         tmchi: (start / 0x20 % 2) as u8,
         id: (start % 0x10) as u8,
         services: (header / 0x100000 % 0x10) as u8,

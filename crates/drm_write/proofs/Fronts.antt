@@ -13,12 +13,12 @@ use Rattle.bits.proofs.Choice.{and-left, chosen, passed-over}
 use Rattle.bits.proofs.Value.{length-bits, val-append, val-bits-lt, bits-val, take-bits}
 use Rattle.bits.proofs.Fields.{length-flat, take-flat}
 use Rattle.bits.proofs.Formats.{length-pack, val-pack}
-use Rattle.drm.specs.declared.Unit.{Unit}
+use Rattle.drm.specs.declared.DataUnit.{DataUnit}
 use Rattle.drm.specs.Format.{startFormat, headerFormat}
 use Rattle.lto.specs.Offset.{ltoField}
-use Rattle.drm_write.specs.Write.{startValues, headerValues, places, frontWidth, frontBits, laid, payloadBits}
+use Rattle.drm_write.specs.Write.{startValues, headerValues, systemFields, frontWidth, frontBits, laid, payloadBits}
 
-module _ (u : Unit) (s : fits startFormat (startValues u) ≡ true) (h : fits headerFormat (headerValues u) ≡ true) where
+module _ (u : DataUnit) (s : fits startFormat (startValues u) ≡ true) (h : fits headerFormat (headerValues u) ≡ true) where
   start-length : length (pack startFormat (startValues u)) ≡ 6
   start-length = length-pack startFormat (startValues u) s
 
@@ -69,17 +69,17 @@ module _ (u : Unit) (s : fits startFormat (startValues u) ≡ true) (h : fits he
           ∙ ap₂ (λ (a b : ℕ). a + b) start-length after-length
           ∙ sym (passed-over _ _ _ e)
 
-  -- the first m places, by division of all three
-  system-number : (m : ℕ) → m ≤ 3 → bits (m * 16) (val (flat 16 (places u)) / 2 ^ (48 - m * 16)) ≡ flat 16 (take m (places u))
+  -- the first m words, by division of all three
+  system-number : (m : ℕ) → m ≤ 3 → bits (m * 16) (val (flat 16 (systemFields u)) / 2 ^ (48 - m * 16)) ≡ flat 16 (take m (systemFields u))
   system-number m small =
       let all : m * 16 + (48 - m * 16) ≡ 48 = omega arith in
-      sym (take-bits (m * 16) (48 - m * 16) (val (flat 16 (places u))))
-      ∙ ap (λ (n : ℕ). take (m * 16) (bits n (val (flat 16 (places u))))) all
-      ∙ ap (take (m * 16)) (bits-val (flat 16 (places u)) 48 (length-flat 16 (places u)))
-      ∙ take-flat 16 m (places u) small
+      sym (take-bits (m * 16) (48 - m * 16) (val (flat 16 (systemFields u))))
+      ∙ ap (λ (n : ℕ). take (m * 16) (bits n (val (flat 16 (systemFields u))))) all
+      ∙ ap (take (m * 16)) (bits-val (flat 16 (systemFields u)) 48 (length-flat 16 (systemFields u)))
+      ∙ take-flat 16 m (systemFields u) small
 
   -- the payload from what the code has found
-  pub laid-out : (ws : List ℕ) (w n x d : ℕ) → u .system ≤ 3 → w ≡ frontWidth u → n ≡ val (frontBits u) → x ≡ val (flat 16 (places u)) → d ≡ 2 ^ (48 - u .system * 16)
+  pub laid-out : (ws : List ℕ) (w n x d : ℕ) → u .system ≤ 3 → w ≡ frontWidth u → n ≡ val (frontBits u) → x ≡ val (flat 16 (systemFields u)) → d ≡ 2 ^ (48 - u .system * 16)
       → laid w n (u .system * 16) (x / d) ws ≡ payloadBits u ws
   unfolding payloadBits
   laid-out ws w n x d small ew en ex ed =
@@ -89,11 +89,11 @@ module _ (u : Unit) (s : fits startFormat (startValues u) ≡ true) (h : fits he
       (bits-val (frontBits u) (frontWidth u) front-length)
       (system-number (u .system) small)
 
--- the three places as one number
-pub places-number : (u : Unit) → u .first < 65536 → u .second < 65536 → u .third < 65536
-    → u .first * 0x100000000 + u .second * 0x10000 + u .third ≡ val (flat 16 (places u))
+-- the three words as one number
+pub fields-number : (u : DataUnit) → u .first < 65536 → u .second < 65536 → u .third < 65536
+    → u .first * 0x100000000 + u .second * 0x10000 + u .third ≡ val (flat 16 (systemFields u))
 unfolding flat pack fits
-places-number u a b c =
-    let f : fits (16 ∷ 16 ∷ 16 ∷ []) (places u) ≡ true = simp (lt-ltb (u .first) 65536 a, lt-ltb (u .second) 65536 b, lt-ltb (u .third) 65536 c) in
-    let n = val-pack (16 ∷ 16 ∷ 16 ∷ []) (places u) f in
+fields-number u a b c =
+    let f : fits (16 ∷ 16 ∷ 16 ∷ []) (systemFields u) ≡ true = simp (lt-ltb (u .first) 65536 a, lt-ltb (u .second) 65536 b, lt-ltb (u .third) 65536 c) in
+    let n = val-pack (16 ∷ 16 ∷ 16 ∷ []) (systemFields u) f in
     omega (arith, n)

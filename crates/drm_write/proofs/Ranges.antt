@@ -7,7 +7,7 @@ use lib.Dec.{leb, ltb, eqb, lit≤}
 use borrow.Author.Tests.{leb-true, leb-false, le-leb, lt-leb, eqb-true, eqb-false, eq-eqb, ne-eqb, ltb-true, lt-ltb}
 use Rattle.bits.specs.Fields.{fits}
 use Rattle.bits.proofs.Choice.{and-left, and-right, chosen, passed-over}
-use Rattle.drm.specs.declared.Unit.{Unit}
+use Rattle.drm.specs.declared.DataUnit.{DataUnit}
 use Rattle.drm.specs.Format.{startFormat, headerFormat}
 use Rattle.lto.specs.Offset.{ltoField}
 use Rattle.drm_write.specs.Allowed.{Bare, Headed}
@@ -18,16 +18,16 @@ either : (t : Bool) → (6 ≤ cond t 6 32) × (cond t 6 32 ≤ 32)
 either true = (lit≤ tt, lit≤ tt)
 either false = (lit≤ tt, lit≤ tt)
 
-pub front-bound : (u : Unit) → (6 ≤ frontWidth u) × (frontWidth u ≤ 32)
+pub front-bound : (u : DataUnit) → (6 ≤ frontWidth u) × (frontWidth u ≤ 32)
 unfolding frontWidth
 front-bound u = either (eqb (u .tmchi) 0)
 
 -- more than 27 user words make a unit too long
-pub too-many : (u : Unit) (n : ℕ) (t : Bool) → t && leb n 27 ≡ false → t && leb (unitLength u n) 128 ≡ false
+pub too-many : (u : DataUnit) (n : ℕ) (t : Bool) → t && leb n 27 ≡ false → t && leb (unitLength u n) 128 ≡ false
 too-many u n true e = lt-leb (unitLength u n) 128 (omega (arith, leb-false n 27 e, front-bound u .0))
 too-many u n false e = refl
 
--- a place that is not in use is 0
+-- a word that is not in use is 0
 unused : (k m v : ℕ) → leb k m || eqb v 0 ≡ true → m < k → v ≡ 0
 unused k m v e h = eqb-true v 0 (sym (ap (λ (t : Bool). t || eqb v 0) (lt-leb k m h)) ∙ e)
 
@@ -39,7 +39,7 @@ in-use k m v h = by (leb k m) refl
     by false e = eq-eqb v 0 (h (leb-false k m e))
 
 -- without a header
-pub bare-parts : (u : Unit) (n : ℕ) → bareFits u n ≡ true → Bare u n
+pub bare-parts : (u : DataUnit) (n : ℕ) → bareFits u n ≡ true → Bare u n
 unfolding bareFits
 bare-parts u n e =
     let a = eqb (u .services) 0 in
@@ -69,12 +69,12 @@ bare-parts u n e =
       some = leb-true 1 n (and-right i (leb 1 n) e);
     }
 
-bare-fits : (u : Unit) (n : ℕ) → Bare u n → bareFits u n ≡ true
+bare-fits : (u : DataUnit) (n : ℕ) → Bare u n → bareFits u n ≡ true
 unfolding bareFits ltoField
 bare-fits u n b = rw (b .services, b .country, b .ecc, b .lto, b .system, b .first, b .second, b .third) (le-leb 1 n (b .some))
 
 -- with one
-pub headed-parts : (u : Unit) → headedFits u ≡ true → Headed u
+pub headed-parts : (u : DataUnit) → headedFits u ≡ true → Headed u
 unfolding headedFits
 headed-parts u e =
     let a = ltb (u .services) 16 in
@@ -98,7 +98,7 @@ headed-parts u e =
       third = unused 3 (u .system) (u .third) (and-right g (leb 3 (u .system) || eqb (u .third) 0) e);
     }
 
-headed-fits : (u : Unit) → Headed u → headedFits u ≡ true
+headed-fits : (u : DataUnit) → Headed u → headedFits u ≡ true
 unfolding headedFits
 headed-fits u h =
     rw (
@@ -112,13 +112,13 @@ headed-fits u h =
     )
 
 -- the fields of a header, with or without one
-pub record Ranges (u : Unit) : Type 0 where
+pub record Ranges (u : DataUnit) : Type 0 where
   pub services : u .services < 16
   pub country : u .country < 16
   pub offset : ltoField (u .lto) < 64
   pub system : u .system ≤ 3
 
-header-ranges : (u : Unit) (n : ℕ) → headerFits u n ≡ true → Ranges u
+header-ranges : (u : DataUnit) (n : ℕ) → headerFits u n ≡ true → Ranges u
 unfolding headerFits ltoField
 header-ranges u n e = by (eqb (u .tmchi) 0) refl
   where
@@ -130,7 +130,7 @@ header-ranges u n e = by (eqb (u .tmchi) 0) refl
         let h = headed-parts u (sym (passed-over _ _ _ z) ∙ e) in
         record { services = h .services; country = h .country; offset = near-field (u .lto) (h .lto); system = h .few }
 
-module _ (u : Unit) (n : ℕ) (fit : unitFits u n ≡ true) where
+module _ (u : DataUnit) (n : ℕ) (fit : unitFits u n ≡ true) where
   fields-part : fieldsFit u n ≡ true
   unfolding unitFits
   fields-part = and-left (fieldsFit u n) (leb (unitLength u n) 128) fit
@@ -183,7 +183,7 @@ module _ (u : Unit) (n : ℕ) (fit : unitFits u n ≡ true) where
       simp (lt-ltb (u .services) 16 (r .services), lt-ltb (u .country) 16 (r .country), lt-ltb (u .ecc) 256 ecc, lt-ltb (ltoField (u .lto)) 64 (r .offset), lt-ltb (u .system) 4 m)
 
 -- and so the tests hold of every unit that the rules allow
-pub unit-allowed : (u : Unit) (n : ℕ) → u .tmchi < 2 → u .id < 16 → (u .tmchi ≡ 0 → Bare u n) → (u .tmchi ≡ 1 → Headed u) → unitLength u n ≤ 128 → unitFits u n ≡ true
+pub unit-allowed : (u : DataUnit) (n : ℕ) → u .tmchi < 2 → u .id < 16 → (u .tmchi ≡ 0 → Bare u n) → (u .tmchi ≡ 1 → Headed u) → unitLength u n ≤ 128 → unitFits u n ≡ true
 unfolding unitFits fieldsFit headerFits
 unit-allowed u n t d b h l = rw (lt-ltb (u .tmchi) 2 t, lt-ltb (u .id) 16 d, by (eqb (u .tmchi) 0) refl, le-leb (unitLength u n) 128 l)
   where

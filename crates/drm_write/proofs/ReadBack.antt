@@ -1,14 +1,14 @@
 -- The fields of a payload that was written, read back.
-use Prim.Native.Nat.{ℕ, zero, suc, _+_, _-_, _*_, _%_, _^_, _≤_, _<_}
+use Prim.Native.Nat.{ℕ, zero, suc, _+_, _*_, _^_, _≤_, _<_}
 use native.Mathlib.Omega.{arith}
 use mathlib.Core.Path.{_≡_, refl, sym, ap, ap₂, _∙_}
-use mathlib.Core.Bool.{Bool, true, false, cond}
+use mathlib.Core.Bool.{Bool, true, false}
 use mathlib.Core.List.{List, [], _∷_, _++_, append-assoc}
 use lib.ListN.{length, take, drop, getD}
 use lib.Seq.{take-at, drop-at, drop-drop, length-take-le}
-use lib.IntN.{ℤ, pos, negsuc, negℤ}
+use lib.IntN.{ℤ}
 use lib.Dec.{ltb, eqb, lit<}
-use borrow.Author.Tests.{eqb-true, ltb-true, le-ltb, le-leb}
+use borrow.Author.Tests.{eqb-true, ltb-true, le-leb}
 use Rattle.bits.specs.Bits.{bit, num, bits, val}
 use Rattle.bits.specs.Fields.{flat, words, unpack, pack, fits}
 use Rattle.bits.specs.Overlay.{stretch}
@@ -16,13 +16,15 @@ use Rattle.bits.proofs.Choice.{and-left, chosen, passed-over}
 use Rattle.bits.proofs.Value.{length-bits}
 use Rattle.bits.proofs.Fields.{words-front}
 use Rattle.bits.proofs.Formats.{length-pack, unpack-bits, unpack-pack}
-use Rattle.drm.specs.declared.Unit.{Unit}
-use Rattle.drm.specs.Format.{startFormat, headerFormat, alertC}
-use Rattle.lto.specs.Offset.{ltoOf, ltoField}
+use Rattle.drm.specs.declared.DataUnit.{DataUnit}
+use Rattle.drm.specs.Format.{startFormat, tmchiIn, headerFormat, systemIn, alertC}
+use Rattle.lto.specs.Offset.{ltoField}
+use Rattle.lto.proofs.Signed.{field-near}
+use Rattle.lto.proofs.WayBack.{write-read}
 use Rattle.drm.specs.Payload.{start, tmchi, uaFlag, aid, headerAt, headerBits, header, systemCount, systemAt, systemWords, wordsAt, unitOf}
 use Rattle.drm.specs.Read.{fieldRefusal}
-use Rattle.drm_write.specs.Allowed.{Bare, Headed, Held}
-use Rattle.drm_write.specs.Write.{startValues, headerValues, places, frontWidth, lead, frontBits}
+use Rattle.drm_write.specs.Allowed.{Bare, Headed, Typed}
+use Rattle.drm_write.specs.Write.{startValues, headerValues, systemFields, frontWidth, lead, frontBits}
 
 below-take : (m k : ℕ) (xs : List ℕ) → 0 < m → ((i : ℕ) → getD xs i 0 < m) → (i : ℕ) → getD (take k xs) i 0 < m
 below-take m zero xs p h i = p
@@ -30,43 +32,26 @@ below-take m (suc k) [] p h i = p
 below-take m (suc k) (x ∷ xs) p h zero = h 0
 below-take m (suc k) (x ∷ xs) p h (suc i) = below-take m k xs p (λ j. h (suc j)) i
 
--- an LTO in range comes back from its field
-lto-again : (z : ℤ) → ltoField z < 64 → ltoOf (ltoField z) ≡ z
-unfolding ltoField ltoOf
-lto-again (pos n) h = by (ltb n 32) refl
-  where
-    by : (t : Bool) → ltb n 32 ≡ t → ltoOf (ltoField (pos n)) ≡ pos n
-    by true e = ap ltoOf (chosen _ _ _ e) ∙ chosen _ _ _ e
-    by false e = let k : cond (ltb n 32) n 64 ≡ 64 = passed-over _ _ _ e in absurd (omega (arith, k, h))
-lto-again (negsuc n) h = by (ltb n 31) refl
-  where
-    by : (t : Bool) → ltb n 31 ≡ t → ltoOf (ltoField (negsuc n)) ≡ negsuc n
-    by true e =
-        let small : n < 31 = ltb-true n 31 e in
-        let rest : (33 + n) % 32 ≡ suc n = omega arith in
-        ap ltoOf (chosen _ _ _ e) ∙ passed-over _ _ _ (le-ltb (33 + n) 32 (omega arith)) ∙ ap (λ (m : ℕ). negℤ (pos m)) rest
-    by false e = let k : cond (ltb n 31) (33 + n) 64 ≡ 64 = passed-over _ _ _ e in absurd (omega (arith, k, h))
-
--- the places in use come back, and the others are 0
-place-back : (m a b c : ℕ) → 1 ≤ m → m ≤ 3 → (m < 2 → b ≡ 0) → (m < 3 → c ≡ 0)
+-- the words in use come back, and the others are 0
+field-back : (m a b c : ℕ) → 1 ≤ m → m ≤ 3 → (m < 2 → b ≡ 0) → (m < 3 → c ≡ 0)
     → (getD (take m (a ∷ b ∷ c ∷ [])) 0 0 ≡ a) × (getD (take m (a ∷ b ∷ c ∷ [])) 1 0 ≡ b) × (getD (take m (a ∷ b ∷ c ∷ [])) 2 0 ≡ c)
-place-back zero a b c h g e f = absurd (omega arith)
-place-back (suc zero) a b c h g e f = (refl, sym (e (omega arith)), sym (f (omega arith)))
-place-back (suc (suc zero)) a b c h g e f = (refl, refl, sym (f (omega arith)))
-place-back (suc (suc (suc zero))) a b c h g e f = (refl, refl, refl)
-place-back (suc (suc (suc (suc m)))) a b c h g e f = absurd (omega arith)
+field-back zero a b c h g e f = absurd (omega arith)
+field-back (suc zero) a b c h g e f = (refl, sym (e (omega arith)), sym (f (omega arith)))
+field-back (suc (suc zero)) a b c h g e f = (refl, refl, sym (f (omega arith)))
+field-back (suc (suc (suc zero))) a b c h g e f = (refl, refl, refl)
+field-back (suc (suc (suc (suc m)))) a b c h g e f = absurd (omega arith)
 
 -- what is read of a payload
-pub record Back (u : Unit) (l : List Bool) : Type 0 where
+pub record Back (u : DataUnit) (l : List Bool) : Type 0 where
   pub start-back : start l ≡ startValues u
   pub aid-back : aid l ≡ alertC
   pub header-back : header l ≡ headerValues u
-  pub system-back : systemWords l ≡ take (u .system) (places u)
+  pub system-back : systemWords l ≡ take (u .system) (systemFields u)
   pub lead-back : wordsAt l ≡ lead u
   pub order : u .tmchi ≤ u .system
-  pub places-back : (getD (take (u .system) (places u)) 0 0 ≡ u .first) × (getD (take (u .system) (places u)) 1 0 ≡ u .second) × (getD (take (u .system) (places u)) 2 0 ≡ u .third)
+  pub fields-back : (getD (take (u .system) (systemFields u)) 0 0 ≡ u .first) × (getD (take (u .system) (systemFields u)) 1 0 ≡ u .second) × (getD (take (u .system) (systemFields u)) 2 0 ≡ u .third)
 
-module _ (u : Unit) (s : fits startFormat (startValues u) ≡ true) (h : fits headerFormat (headerValues u) ≡ true) where
+module _ (u : DataUnit) (s : fits startFormat (startValues u) ≡ true) (h : fits headerFormat (headerValues u) ≡ true) where
   start-length : length (pack startFormat (startValues u)) ≡ 6
   start-length = length-pack startFormat (startValues u) s
 
@@ -90,7 +75,7 @@ module _ (u : Unit) (s : fits startFormat (startValues u) ≡ true) (h : fits he
     bare-start = start-of bl r (ap (λ (f : List Bool). f ++ r) (chosen _ _ _ z))
 
     bare-none : eqb (tmchi bl) 0 ≡ true
-    bare-none = ap (λ (f : List ℕ). eqb (getD f 0 0) 0) bare-start ∙ z
+    bare-none = ap (λ (f : List ℕ). eqb (tmchiIn f) 0) bare-start ∙ z
 
     bare-flag : uaFlag bl ≡ 0
     unfolding uaFlag
@@ -110,11 +95,11 @@ module _ (u : Unit) (s : fits startFormat (startValues u) ≡ true) (h : fits he
         (ap₂ (λ (a : ℕ) (l : List ℕ). a ∷ l) (b .ecc)
         (ap₂ (λ (a m : ℕ). a ∷ m ∷ []) (ap ltoField (b .lto)) (b .system)))))
 
-    bare-system : systemWords bl ≡ take (u .system) (places u)
+    bare-system : systemWords bl ≡ take (u .system) (systemFields u)
     unfolding words
     bare-system =
-        ap (λ (m : ℕ). words 16 m (drop (systemAt bl) bl)) (ap (λ (f : List ℕ). getD f 4 0) bare-header ∙ b .system)
-        ∙ sym (ap (λ (m : ℕ). take m (places u)) (b .system))
+        ap (λ (m : ℕ). words 16 m (drop (systemAt bl) bl)) (ap systemIn bare-header ∙ b .system)
+        ∙ sym (ap (λ (m : ℕ). take m (systemFields u)) (b .system))
 
     bare-lead : wordsAt bl ≡ lead u
     unfolding wordsAt frontWidth
@@ -128,26 +113,26 @@ module _ (u : Unit) (s : fits startFormat (startValues u) ≡ true) (h : fits he
       system-back = bare-system;
       lead-back = bare-lead;
       order = omega (arith, eqb-true (u .tmchi) 0 z);
-      places-back = (
-        ap (λ (m : ℕ). getD (take m (places u)) 0 0) (b .system) ∙ sym (b .first),
-        ap (λ (m : ℕ). getD (take m (places u)) 1 0) (b .system) ∙ sym (b .second),
-        ap (λ (m : ℕ). getD (take m (places u)) 2 0) (b .system) ∙ sym (b .third),
+      fields-back = (
+        ap (λ (m : ℕ). getD (take m (systemFields u)) 0 0) (b .system) ∙ sym (b .first),
+        ap (λ (m : ℕ). getD (take m (systemFields u)) 1 0) (b .system) ∙ sym (b .second),
+        ap (λ (m : ℕ). getD (take m (systemFields u)) 2 0) (b .system) ∙ sym (b .third),
       );
     }
 
   -- with one
-  module _ (held : Held u) (z : eqb (u .tmchi) 0 ≡ false) (g : Headed u) (t : List Bool) where
+  module _ (typed : Typed u) (z : eqb (u .tmchi) 0 ≡ false) (g : Headed u) (t : List Bool) where
     abbrev r : List Bool
-    r = flat 16 (take (u .system) (places u)) ++ t
+    r = flat 16 (take (u .system) (systemFields u)) ++ t
 
     abbrev hl : List Bool
     hl = frontBits u ++ r
 
-    places-fit : (i : ℕ) → getD (places u) i 0 < 2 ^ 16
-    places-fit zero = held .first
-    places-fit (suc zero) = held .second
-    places-fit (suc (suc zero)) = held .third
-    places-fit (suc (suc (suc i))) = lit< tt
+    fields-fit : (i : ℕ) → getD (systemFields u) i 0 < 2 ^ 16
+    fields-fit zero = typed .first
+    fields-fit (suc zero) = typed .second
+    fields-fit (suc (suc zero)) = typed .third
+    fields-fit (suc (suc (suc i))) = lit< tt
 
     abbrev after : List Bool
     after = bits 2 0 ++ (pack headerFormat (headerValues u) ++ r)
@@ -163,7 +148,7 @@ module _ (u : Unit) (s : fits startFormat (startValues u) ≡ true) (h : fits he
     headed-start = start-of hl after split
 
     headed-one : eqb (tmchi hl) 0 ≡ false
-    headed-one = ap (λ (f : List ℕ). eqb (getD f 0 0) 0) headed-start ∙ z
+    headed-one = ap (λ (f : List ℕ). eqb (tmchiIn f) 0) headed-start ∙ z
 
     drop-6 : drop 6 hl ≡ after
     drop-6 = ap (drop 6) split ∙ drop-at (pack startFormat (startValues u)) after 6 start-length
@@ -203,14 +188,14 @@ module _ (u : Unit) (s : fits startFormat (startValues u) ≡ true) (h : fits he
         ∙ unpack-pack headerFormat (headerValues u) h
 
     headed-count : systemCount hl ≡ u .system
-    headed-count = ap (λ (f : List ℕ). getD f 4 0) headed-header
+    headed-count = ap systemIn headed-header
 
-    headed-system : systemWords hl ≡ take (u .system) (places u)
+    headed-system : systemWords hl ≡ take (u .system) (systemFields u)
     headed-system =
-        let few = take (u .system) (places u) in
+        let few = take (u .system) (systemFields u) in
         ap₂ (λ (m : ℕ) (x : List Bool). words 16 m x) headed-count (ap (λ (m : ℕ). drop (m + 24) hl) headed-at ∙ drop-32)
-        ∙ ap (λ (m : ℕ). words 16 m r) (sym (length-take-le (u .system) (places u) (g .few)))
-        ∙ words-front 16 few t (below-take (2 ^ 16) (u .system) (places u) (lit< tt) places-fit)
+        ∙ ap (λ (m : ℕ). words 16 m r) (sym (length-take-le (u .system) (systemFields u) (g .few)))
+        ∙ words-front 16 few t (below-take (2 ^ 16) (u .system) (systemFields u) (lit< tt) fields-fit)
 
     headed-lead : wordsAt hl ≡ lead u
     unfolding wordsAt frontWidth
@@ -231,14 +216,14 @@ module _ (u : Unit) (s : fits startFormat (startValues u) ≡ true) (h : fits he
       system-back = headed-system;
       lead-back = headed-lead;
       order = omega (arith, one, g .some);
-      places-back = place-back (u .system) (u .first) (u .second) (u .third) (g .some) (g .few) (g .second) (g .third);
+      fields-back = field-back (u .system) (u .first) (u .second) (u .third) (g .some) (g .few) (g .second) (g .third);
     }
 
 -- the unit comes back from its fields
-pub unit-back : (u : Unit) (l : List Bool) → Back u l → ltoField (u .lto) < 64 → unitOf (start l) (header l) (systemWords l) ≡ u
+pub unit-back : (u : DataUnit) (l : List Bool) → Back u l → ltoField (u .lto) < 64 → unitOf (start l) (header l) (systemWords l) ≡ u
 unfolding unitOf
 unit-back u l b small =
-    let make : ℤ → ℕ → ℕ → ℕ → Unit = λ z x y w. record {
+    let make : ℤ → ℕ → ℕ → ℕ → DataUnit = λ z x y w. record {
       tmchi = u .tmchi;
       id = u .id;
       services = u .services;
@@ -250,14 +235,14 @@ unit-back u l b small =
       second = y;
       third = w;
     } in
-    let some = take (u .system) (places u) in
+    let some = take (u .system) (systemFields u) in
     ap₂ (λ (f g : List ℕ). unitOf f g (systemWords l)) (b .start-back) (b .header-back)
     ∙ ap (unitOf (startValues u) (headerValues u)) (b .system-back)
-    ∙ ap₂ (λ (z : ℤ) (x : ℕ). make z x (getD some 1 0) (getD some 2 0)) (lto-again (u .lto) small) (b .places-back .0)
-    ∙ ap₂ (λ (y w : ℕ). make (u .lto) (u .first) y w) (b .places-back .1) (b .places-back .2)
+    ∙ ap₂ (λ (z : ℤ) (x : ℕ). make z x (getD some 1 0) (getD some 2 0)) (write-read (u .lto) (field-near (u .lto) small)) (b .fields-back .0)
+    ∙ ap₂ (λ (y w : ℕ). make (u .lto) (u .first) y w) (b .fields-back .1) (b .fields-back .2)
 
 -- and no field of it is refused
-pub fields-pass : (u : Unit) (l : List Bool) → Back u l → fieldRefusal (start l) (aid l) (header l) ≡ 0
+pub fields-pass : (u : DataUnit) (l : List Bool) → Back u l → fieldRefusal (start l) (aid l) (header l) ≡ 0
 unfolding fieldRefusal
 fields-pass u l b =
     ap₂ (λ (f : List ℕ) (a : ℕ). fieldRefusal f a (header l)) (b .start-back) (b .aid-back)

@@ -8,59 +8,39 @@ use lib.ListN.{length, take, drop, getD, length-append}
 use lib.Seq.{take-at, drop-at, length-take-le}
 use lib.Arith.{digits-div, digits-mod}
 use lib.Dec.{leb, eqb}
-use borrow.Author.Tests.{eq-eqb, le-leb}
-use Rattle.bits.specs.Bits.{bits, val, allZero}
+use borrow.Author.Tests.{le-leb}
+use Rattle.bits.specs.Bits.{bits, allZero}
 use Rattle.bits.specs.Fields.{flat, words}
 use Rattle.bits.specs.Checks.{must, unless}
 use Rattle.bits.proofs.Choice.{chosen, passed-over}
-use Rattle.bits.proofs.Value.{length-bits, val-bits-lt, zero-bits}
+use Rattle.bits.proofs.Value.{length-bits, zero-bits}
 use Rattle.bits.proofs.Fields.{length-flat, length-words, flat-words, words-front}
 use Rattle.bits.proofs.Checks.{second, last-check}
-use Rattle.crc.specs.Register.{checkWord}
-use Rattle.crc.proofs.Width.{check-lt}
+use Rattle.crc.specs.Block.{payload, checked}
+use Rattle.crc.proofs.Blocks.{length-checked, payload-checked, checked-holds}
 use Rattle.assembler.specs.declared.Assembler.the-variants.{Empty}
-use Rattle.drm.specs.declared.Unit.{Unit}
+use Rattle.drm.specs.declared.DataUnit.{DataUnit}
 use Rattle.drm.specs.declared.Reading.{Reading}
 use Rattle.drm.specs.declared.Reading.the-variants.{Taken, Refused}
 use Rattle.drm_write.specs.declared.Writing.the-variants as writing
 use Rattle.drm_write.specs.declared.Writing.the-variants.{Written}
 use Rattle.drm.specs.Payload.{start, aid, header, wordsAt, countFrom, padding}
-use Rattle.drm.specs.Check.{payload, checkIn, checked}
 use Rattle.drm.specs.Read.{fieldRefusal, wordsRefusal, payloadRefusal, unitRefusal, taken, readUnit, wordsAfter}
-use Rattle.drm_write.specs.Write.{places, headerFits, frontWidth, lead, payloadLength, unitLength, unitFits, canWrite, frontBits, payloadBits, unitBytes, writeUnit, bytesAfter}
-use Rattle.drm_write.specs.Allowed.{Held}
+use Rattle.drm_write.specs.Write.{systemFields, headerFits, frontWidth, lead, payloadLength, unitLength, unitFits, canWrite, frontBits, payloadBits, unitBytes, writeUnit, bytesAfter}
+use Rattle.drm_write.specs.Allowed.{Typed}
 use Rattle.drm_write.proofs.Ranges.{bare-parts, headed-parts, short, ranges, header-part, start-fits, header-fits}
 use Rattle.drm_write.proofs.Written.{fitting, whole-part}
+use Rattle.report.specs.Read.{readReport}
 use Rattle.messages.proofs.Fed.{whole-below}
 use Rattle.drm_write.proofs.Fronts.{front-length}
 use Rattle.drm_write.proofs.ReadBack.{Back, bare-back, headed-back, unit-back, fields-pass}
 
--- a check word behind its bytes
-module _ (p : List ℕ) where
-  abbrev two : List ℕ
-  two = words 8 2 (bits 16 (checkWord p))
-
-  checked-length : length (checked p) ≡ length p + 2
-  checked-length = length-append p two ∙ ap (λ (n : ℕ). length p + n) (length-words 8 2 (bits 16 (checkWord p)))
-
-  end : length (checked p) - 2 ≡ length p
-  end = omega (arith, checked-length)
-
-  payload-back : payload (checked p) ≡ p
-  payload-back = take-at p two (length (checked p) - 2) (sym end)
-
-  check-back : checkIn (checked p) ≡ checkWord p
-  check-back =
-      ap (λ (l : List ℕ). val (flat 8 l)) (drop-at p two (length (checked p) - 2) (sym end))
-      ∙ ap val (flat-words 8 2 (bits 16 (checkWord p)) (length-bits 16 (checkWord p)))
-      ∙ val-bits-lt 16 (checkWord p) (check-lt p)
-
-module _ (u : Unit) (ws : List ℕ) (held : Held u) (fit : unitFits u (length ws) ≡ true) (below : (i : ℕ) → getD ws i 0 < 2 ^ 37) where
+module _ (u : DataUnit) (ws : List ℕ) (typed : Typed u) (fit : unitFits u (length ws) ≡ true) (below : (i : ℕ) → getD ws i 0 < 2 ^ 37) where
   abbrev n : ℕ
   n = length ws
 
   abbrev system : List Bool
-  system = flat 16 (take (u .system) (places u))
+  system = flat 16 (take (u .system) (systemFields u))
 
   abbrev left : ℕ
   left = payloadLength u n * 8 - (lead u + n * 37)
@@ -72,10 +52,10 @@ module _ (u : Unit) (ws : List ℕ) (held : Held u) (fit : unitFits u (length ws
   l = frontBits u ++ (system ++ rest)
 
   front : length (frontBits u) ≡ frontWidth u
-  front = front-length u (start-fits u n fit) (header-fits u n fit (held .ecc))
+  front = front-length u (start-fits u n fit) (header-fits u n fit (typed .ecc))
 
   system-length : length system ≡ u .system * 16
-  system-length = length-flat 16 (take (u .system) (places u)) ∙ ap (λ (m : ℕ). m * 16) (length-take-le (u .system) (places u) (ranges u n fit .system))
+  system-length = length-flat 16 (take (u .system) (systemFields u)) ∙ ap (λ (m : ℕ). m * 16) (length-take-le (u .system) (systemFields u) (ranges u n fit .system))
 
   -- the front and the system words, and then the user words
   before-rest : length (frontBits u ++ system) ≡ lead u
@@ -98,8 +78,8 @@ module _ (u : Unit) (ws : List ℕ) (held : Held u) (fit : unitFits u (length ws
   back = by (eqb (u .tmchi) 0) refl
     where
       by : (t : Bool) → eqb (u .tmchi) 0 ≡ t → Back u l
-      by true z = bare-back u (start-fits u n fit) (header-fits u n fit (held .ecc)) n z (bare-parts u n (sym (chosen _ _ _ z) ∙ header-part u n fit)) (system ++ rest)
-      by false z = headed-back u (start-fits u n fit) (header-fits u n fit (held .ecc)) held z (headed-parts u (sym (passed-over _ _ _ z) ∙ header-part u n fit)) rest
+      by true z = bare-back u (start-fits u n fit) (header-fits u n fit (typed .ecc)) n z (bare-parts u n (sym (chosen _ _ _ z) ∙ header-part u n fit)) (system ++ rest)
+      by false z = headed-back u (start-fits u n fit) (header-fits u n fit (typed .ecc)) typed z (headed-parts u (sym (passed-over _ _ _ z) ∙ header-part u n fit)) rest
 
   -- a user word without a header, a system word with one
   enough : 41 ≤ lead u + n * 37
@@ -151,10 +131,10 @@ module _ (u : Unit) (ws : List ℕ) (held : Held u) (fit : unitFits u (length ws
   p = words 8 (payloadLength u n) l
 
   bits-back : flat 8 (payload (checked p)) ≡ l
-  bits-back = ap (flat 8) (payload-back p) ∙ flat-words 8 (payloadLength u n) l all-bytes
+  bits-back = ap (flat 8) (payload-checked p) ∙ flat-words 8 (payloadLength u n) l all-bytes
 
   length-bytes : length (checked p) ≡ unitLength u n
-  length-bytes = checked-length p ∙ ap (λ (m : ℕ). m + 2) (length-words 8 (payloadLength u n) l)
+  length-bytes = length-checked p ∙ ap (λ (m : ℕ). m + 2) (length-words 8 (payloadLength u n) l)
 
   pub unit-length : length (unitBytes u ws) ≡ unitLength u n
   unfolding unitBytes payloadBits
@@ -166,7 +146,7 @@ module _ (u : Unit) (ws : List ℕ) (held : Held u) (fit : unitFits u (length ws
       let least : 8 ≤ length (checked p) = omega (arith, length-bytes, enough) in
       let most : length (checked p) ≤ 128 = omega (arith, length-bytes, short u n fit) in
       chosen _ _ _ (ap₂ (λ (a b : Bool). a && b) (le-leb 8 (length (checked p)) least) (le-leb (length (checked p)) 128 most))
-      ∙ chosen _ _ _ (eq-eqb _ _ (check-back p ∙ ap checkWord (sym (payload-back p))))
+      ∙ chosen _ _ _ (checked-holds p)
       ∙ ap (λ (x : List Bool). payloadRefusal x room) bits-back
       ∙ payload-pass room
 
@@ -192,7 +172,7 @@ module _ (u : Unit) (ws : List ℕ) (held : Held u) (fit : unitFits u (length ws
       ∙ words-front 37 ws (bits left 0) below)
 
 -- what is written may be written, and n is its length
-pub written-can : (u : Unit) (ws : List ℕ) (room n : ℕ) → writeUnit u ws room ≡ Written n → (canWrite u ws ≡ true) × (unitLength u (length ws) ≡ n)
+pub written-can : (u : DataUnit) (ws : List ℕ) (room n : ℕ) → writeUnit u ws room ≡ Written n → (canWrite u ws ≡ true) × (unitLength u (length ws) ≡ n)
 unfolding writeUnit
 written-can u ws room n e = by-tests (canWrite u ws) (leb (unitLength u (length ws)) room) refl refl
   where
@@ -210,19 +190,19 @@ written-can u ws room n e = by-tests (canWrite u ws) (leb (unitLength u (length 
         absurd (omega arith)
 
 -- the k cells that a call wrote, read into other cells
-pub way-back : (u : Unit) (ws out lent : List ℕ) (k : ℕ) → Held u → writeUnit u ws (length out) ≡ Written k → length ws ≤ length lent
+pub way-back : (u : DataUnit) (ws out lent : List ℕ) (k : ℕ) → Typed u → writeUnit u ws (length out) ≡ Written k → length ws ≤ length lent
     → let s = take k (bytesAfter (Written k) u ws out) in
     (readUnit s (length lent) ≡ Taken u (length ws)) × (wordsAfter (readUnit s (length lent)) (flat 8 (payload s)) lent ≡ ws ++ drop (length ws) lent)
 unfolding bytesAfter
-way-back u ws out lent k held e room =
+way-back u ws out lent k typed e room =
     let written = written-can u ws (length out) k e in
     let fit = fitting u ws (written .0) in
-    let below = whole-below ws Empty (whole-part u ws (written .0)) in
-    let size : length (unitBytes u ws) ≡ k = unit-length u ws held fit below ∙ written .1 in
+    let below = whole-below readReport ws Empty (whole-part u ws (written .0)) in
+    let size : length (unitBytes u ws) ≡ k = unit-length u ws typed fit below ∙ written .1 in
     let bytes : take k (unitBytes u ws ++ drop k out) ≡ unitBytes u ws = take-at (unitBytes u ws) (drop k out) k size in
-    let read : readUnit (unitBytes u ws) (length lent) ≡ Taken u (length ws) = write-read u ws held fit below (length lent) ∙ chosen _ _ _ (le-leb (length ws) (length lent) room) in (
+    let read : readUnit (unitBytes u ws) (length lent) ≡ Taken u (length ws) = write-read u ws typed fit below (length lent) ∙ chosen _ _ _ (le-leb (length ws) (length lent) room) in (
       ap (λ (s : List ℕ). readUnit s (length lent)) bytes ∙ read,
       ap (λ (s : List ℕ). wordsAfter (readUnit s (length lent)) (flat 8 (payload s)) lent) bytes
           ∙ ap (λ (r : Reading). wordsAfter r (flat 8 (payload (unitBytes u ws))) lent) read
-          ∙ words-back u ws held fit below lent,
+          ∙ words-back u ws typed fit below lent,
     )

@@ -7,19 +7,20 @@ use lib.ListN.{length, drop}
 use lib.Dec.{leb}
 use borrow.Author.Tests.{le-leb, lt-leb}
 use Rattle.bits.proofs.Choice.{and-left, and-right, chosen, passed-over}
-use Rattle.drm.specs.declared.Unit.{Unit}
+use Rattle.drm.specs.declared.DataUnit.{DataUnit}
 use Rattle.drm_write.specs.declared.Writing.the-variants.{Written, Refused}
+use Rattle.report.specs.Read.{readReport}
 use Rattle.messages.specs.Messages.{whole}
 use Rattle.drm_write.specs.Write.{unitLength, unitFits, canWrite, unitBytes, writeUnit, bytesAfter}
 
-module _ (u : Unit) (ws : List ℕ) where
+module _ (u : DataUnit) (ws : List ℕ) where
   pub fitting : canWrite u ws ≡ true → unitFits u (length ws) ≡ true
   unfolding canWrite
-  fitting e = and-left (unitFits u (length ws)) (whole ws) e
+  fitting e = and-left (unitFits u (length ws)) (whole readReport ws) e
 
-  pub whole-part : canWrite u ws ≡ true → whole ws ≡ true
+  pub whole-part : canWrite u ws ≡ true → whole readReport ws ≡ true
   unfolding canWrite
-  whole-part e = and-right (unitFits u (length ws)) (whole ws) e
+  whole-part e = and-right (unitFits u (length ws)) (whole readReport ws) e
 
   module _ (room n : ℕ) (e : n ≡ unitLength u (length ws)) where
     pub written : canWrite u ws ≡ true → n ≤ room → Written n ≡ writeUnit u ws room
@@ -35,6 +36,6 @@ module _ (u : Unit) (ws : List ℕ) where
   unfit room e = sym (passed-over _ _ _ e)
 
 -- p is what stands in the first cells afterwards
-pub written-bytes : (u : Unit) (ws out : List ℕ) (n : ℕ) (p : List ℕ) → p ≡ unitBytes u ws → p ++ drop n out ≡ bytesAfter (Written n) u ws out
+pub written-bytes : (u : DataUnit) (ws out : List ℕ) (n : ℕ) (p : List ℕ) → p ≡ unitBytes u ws → p ++ drop n out ≡ bytesAfter (Written n) u ws out
 unfolding bytesAfter
 written-bytes u ws out n p e = ap (λ (l : List ℕ). l ++ drop n out) e

@@ -5,13 +5,14 @@ use mathlib.Core.Path.{_≡_}
 use mathlib.Core.List.{List}
 use lib.ListN.{length}
 use lib.IntN.{pos, natAbs}
-use Rattle.drm.specs.declared.Unit.{Unit}
+use Rattle.drm.specs.declared.DataUnit.{DataUnit}
 use Rattle.drm.specs.Format.{longest}
+use Rattle.report.specs.Read.{readReport}
 use Rattle.messages.specs.Whole.{Whole}
 use Rattle.drm_write.specs.Write.{unitLength}
 
 -- no header: every field after Short ID is 0, and there is a user word
-pub record Bare (u : Unit) (n : ℕ) : Type 0 where
+pub record Bare (u : DataUnit) (n : ℕ) : Type 0 where
   pub services : u .services ≡ 0
   pub country : u .country ≡ 0
   pub ecc : u .ecc ≡ 0
@@ -22,8 +23,8 @@ pub record Bare (u : Unit) (n : ℕ) : Type 0 where
   pub third : u .third ≡ 0
   pub some : 1 ≤ n
 
--- a header: its fields in their ranges, one to three system words, and 0 in a place that is not in use
-pub record Headed (u : Unit) : Type 0 where
+-- a header: its fields in their ranges, one to three system words, and 0 for those not in use
+pub record Headed (u : DataUnit) : Type 0 where
   pub services : u .services < 2 ^ 4
   pub country : u .country < 2 ^ 4
   pub lto : natAbs (u .lto) < 2 ^ 5
@@ -33,16 +34,16 @@ pub record Headed (u : Unit) : Type 0 where
   pub third : u .system < 3 → u .third ≡ 0
 
 -- document 01's list of what a writer refuses, turned round
-pub record Allowed (u : Unit) (ws : List ℕ) : Type 0 where
+pub record Allowed (u : DataUnit) (ws : List ℕ) : Type 0 where
   pub tmchi : u .tmchi < 2
   pub id : u .id < 2 ^ 4
   pub bare : u .tmchi ≡ 0 → Bare u (length ws)
   pub headed : u .tmchi ≡ 1 → Headed u
-  pub length : unitLength u (length ws) ≤ longest
-  pub whole : Whole ws
+  pub bytes : unitLength u (length ws) ≤ longest
+  pub whole : Whole readReport ws
 
--- what the code's fields for ECC and the system words hold: 8 bits, and 16 each
-pub record Held (u : Unit) : Type 0 where
+-- what the types of the struct say of ECC and the system words: 8 bits, and 16 each
+pub record Typed (u : DataUnit) : Type 0 where
   pub ecc : u .ecc < 2 ^ 8
   pub first : u .first < 2 ^ 16
   pub second : u .second < 2 ^ 16

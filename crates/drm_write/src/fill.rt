@@ -6,33 +6,32 @@ ghost use lib.ListN.{length};
 ghost use Rattle.bits.specs.Bits.{val};
 ghost use Rattle.bits.specs.Fields.{flat, fits as Fields·fits, words as Fields·words};
 ghost use Rattle.drm.specs.Format.{startFormat, headerFormat};
-ghost use Rattle.drm_write.specs.Write.{startValues, headerValues, places, payloadLength, unitLength, unitFits, frontBits, laid, payloadBits, unitBytes};
+ghost use Rattle.drm_write.specs.Write.{startValues, headerValues, systemFields, payloadLength, unitLength, unitFits, frontBits, laid, payloadBits, unitBytes};
 use crate::fits::front_width;
 use bits::bytes::pow2;
-use bits::bytes::store;
 use bits::field::put_bits;
 use bits::run::put_words;
-use crc::check_word;
-use drm::Unit;
+use crc::block::CHECK_LENGTH;
+use crc::block::put_check;
+use drm::DataUnit;
 use lto::lto_field;
 
 // Fills s with the unit.
-pub(crate) fn fill(s: &mut [u8], unit: Unit, words: &[u64])
+pub(crate) fn fill(s: &mut [u8], unit: DataUnit, words: &[u64])
     requires { ⌜ (unitFits unit (length (now words)) ≡ true) × (length (now s) ≡ unitLength unit (length (now words))) ⌝ }
     ensures { λ _. ⌜ now (s .exit) ≡ unitBytes unit (now (words .entry)) ⌝ }
 {
-    let end = s.len() - Unit::CHECK;
+    let end = s.len() - CHECK_LENGTH;
     fill_payload(&mut s[..end], unit, words);
-    let check = check_word(&s[..end]) as u64;
-    store(&mut s[end..], check);
+    put_check(s);
 }
 
 // Fills s with the unit's bytes before the check word.
-fn fill_payload(s: &mut [u8], unit: Unit, words: &[u64])
+fn fill_payload(s: &mut [u8], unit: DataUnit, words: &[u64])
     requires { ⌜ (unitFits unit (length (now words)) ≡ true) × (length (now s) ≡ payloadLength unit (length (now words))) ⌝ }
     ensures { λ _. ⌜ now (s .exit) ≡ Fields·words 8 (length (now (s .entry))) (payloadBits unit (now (words .entry))) ⌝ }
 {
-    let system = unit.system as usize * 16;
+    let system = unit.system as usize * DataUnit::SYSTEM_WIDTH;
     let messages = system_number(unit) / pow2(48 - system);
     lay(
         s,
@@ -45,7 +44,7 @@ fn fill_payload(s: &mut [u8], unit: Unit, words: &[u64])
 }
 
 // The start and, with a header, its fields, as one number.
-fn front_number(unit: Unit) -> u64
+fn front_number(unit: DataUnit) -> u64
     requires { ⌜ (Fields·fits startFormat (startValues unit) ≡ true) × (Fields·fits headerFormat (headerValues unit) ≡ true) ⌝ }
     ensures { λ r. ⌜ r ≡ val (frontBits unit) ⌝ }
 {
@@ -62,9 +61,9 @@ fn front_number(unit: Unit) -> u64
     }
 }
 
-// The places of the system words as one number.
-fn system_number(unit: Unit) -> u64
-    ensures { λ r. ⌜ r ≡ val (flat 16 (places unit)) ⌝ }
+// The system words as one number, the first highest.
+fn system_number(unit: DataUnit) -> u64
+    ensures { λ r. ⌜ r ≡ val (flat 16 (systemFields unit)) ⌝ }
 {
     unit.first as u64 * 0x100000000 + unit.second as u64 * 0x10000 + unit.third as u64
 }
@@ -77,7 +76,7 @@ fn lay(s: &mut [u8], front: usize, head: u64, system: usize, messages: u64, word
     put_bits(s, 0, front, head);
     put_bits(s, front, system, messages);
     let at = front + system;
-    put_words(s, at, Unit::WIDTH, words);
-    let used = at + words.len() * Unit::WIDTH;
+    put_words(s, at, DataUnit::WIDTH, words);
+    let used = at + words.len() * DataUnit::WIDTH;
     put_bits(s, used, s.len() * 8 - used, 0);
 }

@@ -2,9 +2,4 @@ pub mod Checks
 pub mod Header
 pub mod Data
 pub mod Answers
-pub mod Filling
-pub mod Ranges
-pub mod Written
-pub mod WayBack
-pub mod Writable
 pub mod Examples

@@ -2,7 +2,7 @@
 use Prim.Native.Nat.{ℕ, _-_, _*_, _/_, _%_}
 use mathlib.Core.Bool.{Bool, _&&_}
 use mathlib.Core.List.{List, _++_}
-use lib.ListN.{length, getD, take, drop}
+use lib.ListN.{length, take, drop}
 use lib.Dec.{leb, eqb}
 use Rattle.bits.specs.Bits.{allZero}
 use Rattle.bits.specs.Fields.{flat, words, unpack}
@@ -10,7 +10,7 @@ use Rattle.bits.specs.Checks.{must, unless}
 use Rattle.fig.specs.declared.Fig.{Fig}
 use Rattle.fig.specs.declared.Reading.{Reading}
 use Rattle.fig.specs.declared.Reading.the-variants.{Taken, Refused}
-use Rattle.fig.specs.Format.{headerLength, longest, figFormat, wordWidth}
+use Rattle.fig.specs.Format.{headerLength, longest, figFormat, typeIn, followingIn, d1In, d2In, tcidIn, extensionIn, wordWidth}
 
 -- the header's fields: type, count, D1, D2, TCId, extension
 abbrev pub fields : List ℕ → List ℕ
@@ -18,7 +18,7 @@ fields s = unpack figFormat (flat 8 (take headerLength s))
 
 -- D1 and TCId, from the fields
 abbrev pub figOf : List ℕ → Fig
-figOf f = record { d1 = getD f 2 0; tcid = getD f 4 0 }
+figOf f = record { d1 = d1In f; tcid = tcidIn f }
 
 -- how many words of w bits some data bytes hold
 abbrev pub countIn : ℕ → List ℕ → ℕ
@@ -35,10 +35,10 @@ lengthFits w n = leb 1 (n * 8 / w) && leb (n * 8 % w) 7
 -- the header, by its fields: type 5, the count of the bytes that follow the first, extension 1, D2 = 0
 unfoldable pub fieldRefusal : ℕ → List ℕ → ℕ
 fieldRefusal following f =
-    must (eqb (getD f 0 0) 5) 2
-    (must (eqb (getD f 1 0) following) 1
-    (must (eqb (getD f 5 0) 1) 2
-    (must (eqb (getD f 3 0) 0) 3
+    must (eqb (typeIn f) 5) 2
+    (must (eqb (followingIn f) following) 1
+    (must (eqb (extensionIn f) 1) 2
+    (must (eqb (d2In f) 0) 3
     0)))
 
 -- 2 to 30 bytes, and then the header

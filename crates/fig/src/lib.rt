@@ -1,11 +1,11 @@
-// FIG 5/1, which carries the Traffic Message Channel of DAB: read and written.
+// FIG 5/1, which carries the Traffic Message Channel of DAB, and reading it.
 ghost use mathlib.Core.Path.{_≡_};
 ghost use Rattle.fig.specs.Format.{wordWidth};
 
 mod read;
-mod write;
 
 // What a FIG 5/1 says of its words: D1 their width, TCId their service.
+#[repr(C)]
 pub struct Fig {
     pub d1: u8,
     pub tcid: u8,
@@ -17,12 +17,6 @@ pub enum Reading {
     Refused(u8),
 }
 
-pub enum Writing {
-    // How many bytes were written.
-    Written(usize),
-    Refused(u8),
-}
-
 impl Fig {
     // The bytes of the header, and at most of the data and of a FIG.
     pub const HEADER: usize = 2;
@@ -30,11 +24,19 @@ impl Fig {
     pub const DATA: usize = 28;
 
     pub const LONGEST: usize = Fig::HEADER + Fig::DATA;
-    // The most words of 37 and of 16 bits.
+    // The most words for D1 = 0, and the bits of each.
     pub const WORDS: usize = 6;
 
+    pub const WIDTH: usize = 37;
+    // The most words for D1 = 1, and the bits of each.
     pub const SHORT_WORDS: usize = 14;
-    // TCIds are below this.
+
+    pub const SHORT_WIDTH: usize = 16;
+    // The most bits of padding after the words.
+    pub const PADDING: usize = 7;
+    // D1 and TCId are below these.
+    pub const D1S: u8 = 2;
+
     pub const SERVICES: u8 = 8;
 
     // Words of 37 bits for service 0.
@@ -45,9 +47,13 @@ impl Fig {
     }
 
     // The bits of a word.
-    fn width(self) -> usize
+    pub fn width(self) -> usize
         ensures { λ r. ⌜ r ≡ wordWidth (self .d1) ⌝ }
     {
-        if self.d1 == 0 { 37 } else { 16 }
+        if self.d1 == 0 {
+            Fig::WIDTH
+        } else {
+            Fig::SHORT_WIDTH
+        }
     }
 }

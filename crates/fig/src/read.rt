@@ -99,7 +99,7 @@ fn data_refusal(bytes: &[u8], w: usize, room: usize) -> u8
     let words = bytes.len() * 8 / w;
     let used = words * w;
     let left = bytes.len() * 8 % w;
-    if (1 <= words) & (left <= 7) {
+    if (1 <= words) & (left <= Fig::PADDING) {
         if zeros_at(bytes, used, left) {
             if words <= room { 0 } else { 15 }
         } else {

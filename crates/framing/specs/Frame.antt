@@ -1,4 +1,4 @@
--- The form of a record (document 01, "The listing program").
+-- The form of a frame (document 01, "The listing program").
 use Prim.Native.Nat.{ℕ, _+_, _*_}
 use mathlib.Core.Bool.{Bool, cond, _&&_}
 use mathlib.Core.List.{List, [], _∷_}
@@ -11,7 +11,7 @@ use Rattle.framing.specs.declared.Frame.the-variants.{End, Part, Bad, Wh
 abbrev pub little : ℕ → ℕ → ℕ
 little low high = low + high * 256
 
--- a record has 2 to 130 bytes after its length
+-- a frame has 2 to 130 bytes after its length
 abbrev pub lengthFits : ℕ → Bool
 lengthFits n = leb 2 n && leb n 130
 
@@ -25,6 +25,6 @@ frameOf [] = End
 frameOf (low ∷ []) = Part
 frameOf (low ∷ high ∷ rest) = framed (little low high) (length rest)
 
--- the kind of a record: its first 16 bits after the length
+-- the kind of a frame: its first 16 bits after the length
 unfoldable pub kindOf : List ℕ → ℕ
 kindOf r = little (getD r 0 0) (getD r 1 0)

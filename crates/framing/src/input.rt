@@ -4,7 +4,7 @@ ghost use Prim.Native.Nat.{_-_, _≤_};
 ghost use lib.ListN.{length};
 ghost use Rattle.framing.specs.Input.{kept};
 
-// Moves the bytes from a place on to the front, and answers how many they are.
+// Moves the bytes from an index on to the front, and answers how many they are.
 pub fn keep(s: &mut [u8], from: usize) -> usize
     requires { ⌜ from ≤ length (now s) ⌝ }
     ensures { λ r. ⌜ r ≡ length (now (s .entry)) - from ⌝ }

@@ -1,4 +1,4 @@
-// The form of a record: a length of 16 bits, low byte first, and as many bytes after it.
+// The form of a frame: a length of 16 bits, low byte first, and as many bytes after it.
 ghost use mathlib.Core.Path.{_≡_};
 ghost use Rattle.framing.specs.Frame.{little as Frame·little, framed as Frame·framed, frameOf};
 
@@ -8,16 +8,16 @@ pub mod input;
 pub enum Frame {
     // There are none.
     End,
-    // A part of a record: more bytes would tell.
+    // A part of a frame: more bytes would tell.
     Part,
-    // A length that no record has.
+    // A length that no frame has.
     Bad,
-    // A whole record, of so many bytes after its length.
+    // A whole frame, of so many bytes after its length.
     Whole(usize),
 }
 
 impl Frame {
-    // The bytes of a record's length.
+    // The bytes of a frame's length.
     pub const LENGTH: usize = 2;
     // The bytes after the length, at least and at most.
     pub const SHORTEST: usize = 2;

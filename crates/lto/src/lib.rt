@@ -3,14 +3,25 @@ ghost use mathlib.Core.Path.{_≡_};
 ghost use lib.IntN.{pos, negsuc};
 ghost use Rattle.lto.specs.Offset.{ltoOf, ltoField};
 
+// A field of six bits is below this. It is also what stands for a field where there is none.
+pub const FIELDS: u64 = 64;
+// The sign bit of a field. Numbers of half hours are below it.
+const SIGN: u8 = 32;
+
+const EAST: u64 = SIGN as u64;
+// The field of half an hour to the west, and how many fields there are from it on.
+const WEST: u64 = EAST + 1;
+
+const WEST_FIELDS: u64 = FIELDS - WEST;
+
 // A sign bit and five bits of half hours as a signed number.
 pub fn half_hours(field: u8) -> i8
     ensures { λ r. ⌜ r ≡ ltoOf field ⌝ }
 {
-    if field < 32 {
+    if field < SIGN {
         field as i8
     } else {
-        0 - (field % 32) as i8
+        0 - (field % SIGN) as i8
     }
 }
 
@@ -29,12 +40,12 @@ pub fn lto_field(lto: i8) -> u64
 fn west(n: u64) -> u64
     ensures { λ r. ⌜ r ≡ ltoField (negsuc n) ⌝ }
 {
-    if n < 31 { 33 + n } else { 64 }
+    if n < WEST_FIELDS { WEST + n } else { FIELDS }
 }
 
 // The field of n half hours to the east, 64 where it is out of range.
 fn east(n: u64) -> u64
     ensures { λ r. ⌜ r ≡ ltoField (pos n) ⌝ }
 {
-    if n < 32 { n } else { 64 }
+    if n < EAST { n } else { FIELDS }
 }

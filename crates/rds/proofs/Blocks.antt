@@ -1,13 +1,13 @@
 -- A group of eight bytes as one number of 64 bits.
 use Prim.Native.Nat.{ℕ, _*_, _≤_, _<_}
-use mathlib.Core.Path.{_≡_, refl, sym, ap, ap₂, _∙_}
+use mathlib.Core.Path.{_≡_, sym, ap, ap₂, _∙_}
 use mathlib.Core.Bool.{Bool, true, false, _&&_}
 use mathlib.Core.List.{List, _++_}
 use lib.ListN.{length, drop}
 use lib.Dec.{leb}
 use borrow.Author.Tests.{eq-eqb, le-leb, lt-leb}
 use Rattle.bits.specs.Bits.{bits, val}
-use Rattle.bits.specs.Fields.{flat, words, unpack, pack, fits}
+use Rattle.bits.specs.Fields.{flat, words, pack, fits}
 use Rattle.bits.proofs.Choice.{chosen, passed-over}
 use Rattle.bits.proofs.Value.{bits-val}
 use Rattle.bits.proofs.Fields.{length-flat}

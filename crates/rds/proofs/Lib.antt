@@ -2,4 +2,3 @@ pub mod Blocks
 pub mod Repeats
 pub mod WayBack
 pub mod Runs
-pub mod Examples

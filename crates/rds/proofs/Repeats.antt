@@ -1,10 +1,7 @@
 -- What one word more does to a run.
 use Prim.Native.Nat.{ℕ}
-use mathlib.Core.Path.{_≡_, ap}
-use mathlib.Core.Bool.{Bool, true, false, cond}
-use lib.Dec.{eqb}
+use mathlib.Core.Path.{_≡_}
 use borrow.Author.Tests.{eq-eqb, ne-eqb}
-use Rattle.rds.specs.declared.Step.{Step}
 use Rattle.rds.specs.declared.Run.the-variants.{One, More}
 use Rattle.rds.specs.declared.Answer.the-variants.{Nothing, Valid}
 use Rattle.rds.specs.Repeat.{nextRun, answerTo, begun, heard}

@@ -1,18 +1,27 @@
 -- The repeat rule over a whole reception: the valid words are those of the runs of two or more, in order.
-use Prim.Native.Nat.{ℕ, zero, suc}
+use Prim.Native.Nat.{ℕ, suc, _^_, _<_}
+use native.Mathlib.Nat.{lt-of-lt-of-le}
 use mathlib.Core.Path.{_≡_, refl, sym, ap, subst, _∙_}
-use mathlib.Core.Bool.{Bool, true, false, cond}
+use mathlib.Core.Bool.{Bool, true, false, _&&_, cond}
 use mathlib.Core.List.{List, [], _∷_}
-use lib.Dec.{eqb, leb}
-use borrow.Author.Tests.{eqb-true, eq-eqb, le-leb}
+use lib.ListN.{length, take, drop, length-take}
+use lib.Pow.{pow-mono}
+use lib.Dec.{eqb, ltb}
+use borrow.Author.Tests.{eqb-true, eq-eqb, le-leb, lt-ltb}
 use native.Mathlib.Omega.{arith}
+use Rattle.bits.specs.Bits.{val}
+use Rattle.bits.specs.Fields.{flat, unpack}
 use Rattle.bits.proofs.Choice.{chosen, passed-over}
+use Rattle.bits.proofs.Value.{val-lt}
 use Rattle.rds.specs.declared.Reading.{Reading}
-use Rattle.rds.specs.declared.Reading.the-variants as reading
+use Rattle.rds.specs.declared.Reading.the-variants.{Taken, Refused}
+use Rattle.rds.specs.declared.Group.{Group}
+use Rattle.rds.specs.declared.Step.{Step}
 use Rattle.rds.specs.declared.Run.{Run}
 use Rattle.rds.specs.declared.Run.the-variants.{Empty, One, More}
-use Rattle.rds.specs.Read.{readGroup}
-use Rattle.rds.specs.Repeat.{nextRun, answerTo, afterReading, received}
+use Rattle.rds.specs.Format.{groupLength, groupFormat, typeIn, versionIn, wordIn, wordLimit}
+use Rattle.rds.specs.Read.{groupOf, groupBy, readGroup}
+use Rattle.rds.specs.Repeat.{nextRun, answerTo, afterReading, runFits, received}
 use Rattle.rds.specs.Answers.{answers}
 use Rattle.rds.specs.Runs.{Equal, equal, before, runs, counted, wordThen, words8A, validThen, validWords}
 
@@ -21,17 +30,61 @@ heardFrom : Run → List ℕ → List ℕ
 heardFrom r [] = []
 heardFrom r (w ∷ ws) = validThen (answerTo r w) (heardFrom (nextRun r w) ws)
 
+-- a number of w bits is in range
+small : (w : ℕ) (l : List Bool) → val (take w l) < 2 ^ w
+small w l = lt-of-lt-of-le (val-lt (take w l)) (pow-mono (omega (arith, length-take w l)))
+
+word-lt : (l : List Bool) → wordIn (unpack groupFormat l) < wordLimit
+unfolding unpack
+word-lt l = small 37 (drop 5 (drop 1 (drop 1 (drop 4 (drop 16 l)))))
+
+either : (t : Bool) (w : ℕ) → ltb w wordLimit ≡ true → runFits (cond t (More w) (One w)) ≡ true
+unfolding runFits
+either true w h = h
+either false w h = h
+
+-- the word of a group that reads has 37 bits
+read-small : (s : List ℕ) (g : Group) → readGroup s ≡ Taken g → ltb (g .word) wordLimit ≡ true
+unfolding readGroup groupBy
+read-small s g e = by-tests (eqb (length s) groupLength) (eqb (typeIn fields) 8 && eqb (versionIn fields) 0) refl refl
+  where
+    fields : List ℕ
+    fields = unpack groupFormat (flat 8 s)
+
+    by-tests : (t u : Bool) → eqb (length s) groupLength ≡ t → eqb (typeIn fields) 8 && eqb (versionIn fields) 0 ≡ u → ltb (g .word) wordLimit ≡ true
+    by-tests true true f r =
+        let k : Taken (groupOf fields) ≡ Taken g = sym (chosen _ _ _ f ∙ chosen _ _ _ r) ∙ e in
+        let same : wordIn fields ≡ g .word = cc in
+        lt-ltb (g .word) wordLimit (subst (λ (n : ℕ). n < wordLimit) same (word-lt (flat 8 s)))
+    by-tests true false f r =
+        let k : Refused 2 ≡ Taken g = sym (chosen _ _ _ f ∙ passed-over _ _ _ r) ∙ e in
+        let z : _≡_ {A = ℕ} 0 1 = cc in
+        absurd (omega arith)
+    by-tests false u f r =
+        let k : Refused 1 ≡ Taken g = sym (passed-over _ _ _ f) ∙ e in
+        let z : _≡_ {A = ℕ} 0 1 = cc in
+        absurd (omega arith)
+
+next-fits : (r : Run) (w : ℕ) → ltb w wordLimit ≡ true → runFits (nextRun r w) ≡ true
+unfolding runFits nextRun
+next-fits Empty w h = h
+next-fits (One v) w h = either (eqb v w) w h
+next-fits (More v) w h = either (eqb v w) w h
+
 -- a group received, by what it reads as
-by-reading : (r : Run) (x : Reading) (ws : List ℕ) (rest : Run → List ℕ) → ((q : Run) → rest q ≡ heardFrom q ws)
+by-reading : (r : Run) (x : Reading) (ws : List ℕ) (rest : Run → List ℕ) → runFits r ≡ true → ((g : Group) → x ≡ Taken g → ltb (g .word) wordLimit ≡ true)
+    → ((q : Run) → runFits q ≡ true → rest q ≡ heardFrom q ws)
     → validThen (afterReading r x .answer) (rest (afterReading r x .run)) ≡ heardFrom r (wordThen x ws)
 unfolding heardFrom afterReading
-by-reading r (reading.Taken g) ws rest h = ap (validThen (answerTo r (g .word))) (h (nextRun r (g .word)))
-by-reading r (reading.Refused n) ws rest h = h r
+by-reading r (Taken g) ws rest f small h = ap (validThen (answerTo r (g .word))) (h (nextRun r (g .word)) (next-fits r (g .word) (small g refl)))
+by-reading r (Refused n) ws rest f small h = h r f
 
-of-groups : (groups : List (List ℕ)) (r : Run) → validWords (answers r groups) ≡ heardFrom r (words8A groups)
+of-groups : (groups : List (List ℕ)) (r : Run) → runFits r ≡ true → validWords (answers r groups) ≡ heardFrom r (words8A groups)
 unfolding validWords answers words8A heardFrom received
-of-groups [] r = refl
-of-groups (s ∷ groups) r = by-reading r (readGroup s) (words8A groups) (λ q. validWords (answers q groups)) (of-groups groups)
+of-groups [] r f = refl
+of-groups (s ∷ groups) r f =
+    ap (λ (x : Step). validThen (x .answer) (validWords (answers (x .run) groups))) (chosen _ _ _ f)
+    ∙ by-reading r (readGroup s) (words8A groups) (λ q. validWords (answers q groups)) f (read-small s) (of-groups groups)
 
 -- the runs of a list begin with that of its first word
 record Begins (w : ℕ) (l : List Equal) : Type 0 where
@@ -136,5 +189,9 @@ unfolding heardFrom answerTo nextRun runs counted
 from-empty [] = refl
 from-empty (w ∷ ws) = after ws w .one
 
+empty-fits : runFits Empty ≡ true
+unfolding runFits
+empty-fits = refl
+
 pub repeat-rule : (groups : List (List ℕ)) → validWords (answers Empty groups) ≡ counted (runs (words8A groups))
-repeat-rule groups = of-groups groups Empty ∙ from-empty (words8A groups)
+repeat-rule groups = of-groups groups Empty empty-fits ∙ from-empty (words8A groups)

@@ -2,21 +2,21 @@
 use Prim.Native.Nat.{ℕ}
 use mathlib.Core.Bool.{_&&_, cond}
 use mathlib.Core.List.{List}
-use lib.ListN.{length, getD}
+use lib.ListN.{length}
 use lib.Dec.{eqb}
 use Rattle.bits.specs.Fields.{flat, unpack}
 use Rattle.rds.specs.declared.Group.{Group}
 use Rattle.rds.specs.declared.Reading.{Reading}
 use Rattle.rds.specs.declared.Reading.the-variants.{Taken, Refused}
-use Rattle.rds.specs.Format.{groupLength, groupFormat}
+use Rattle.rds.specs.Format.{groupLength, groupFormat, piIn, typeIn, versionIn, tpIn, ptyIn, wordIn}
 
 -- PI, TP, PTY and the word, from the group's fields
 abbrev pub groupOf : List ℕ → Group
-groupOf f = record { pi = getD f 0 0; tp = getD f 3 0; pty = getD f 4 0; word = getD f 5 0 }
+groupOf f = record { pi = piIn f; tp = tpIn f; pty = ptyIn f; word = wordIn f }
 
 -- by the group's fields: refusal 2 for another type or version
 unfoldable pub groupBy : List ℕ → Reading
-groupBy f = cond (eqb (getD f 1 0) 8 && eqb (getD f 2 0) 0) (Taken (groupOf f)) (Refused 2)
+groupBy f = cond (eqb (typeIn f) 8 && eqb (versionIn f) 0) (Taken (groupOf f)) (Refused 2)
 
 -- refusal 1 for another length
 unfoldable pub readGroup : List ℕ → Reading

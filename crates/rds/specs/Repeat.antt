@@ -1,9 +1,9 @@
 -- The repeat rule (document 01, "RDS"; ISO 14819-1, clause 7.3): a run of equal words among the 8A groups counts as one valid
 -- word, at its second member.
 use Prim.Native.Nat.{ℕ}
-use mathlib.Core.Bool.{cond}
+use mathlib.Core.Bool.{Bool, true, cond}
 use mathlib.Core.List.{List}
-use lib.Dec.{eqb}
+use lib.Dec.{eqb, ltb}
 use Rattle.rds.specs.declared.Reading.{Reading}
 use Rattle.rds.specs.declared.Reading.the-variants as reading
 use Rattle.rds.specs.declared.Run.{Run}
@@ -11,6 +11,7 @@ use Rattle.rds.specs.declared.Run.the-variants.{Empty, One, More}
 use Rattle.rds.specs.declared.Answer.{Answer}
 use Rattle.rds.specs.declared.Answer.the-variants.{Nothing, Valid, Refused}
 use Rattle.rds.specs.declared.Step.{Step}
+use Rattle.rds.specs.Format.{wordLimit}
 use Rattle.rds.specs.Read.{readGroup}
 
 -- a run of one, which gives nothing yet
@@ -33,10 +34,17 @@ answerTo (More v) w = Nothing
 abbrev pub heard : Run → ℕ → Step
 heard r w = record { run = nextRun r w; answer = answerTo r w }
 
--- one group; a refused one leaves the run as it is
+-- one group by its reading; a refused one leaves the run as it is
 unfoldable pub afterReading : Run → Reading → Step
 afterReading r (reading.Taken g) = heard r (g .word)
 afterReading r (reading.Refused n) = record { run = r; answer = Refused n }
 
+-- a run that groups can give: its word has 37 bits
+unfoldable pub runFits : Run → Bool
+runFits Empty = true
+runFits (One w) = ltb w wordLimit
+runFits (More w) = ltb w wordLimit
+
+-- one group received; another run is refused (9) before all else, and kept
 unfoldable pub received : Run → List ℕ → Step
-received r s = afterReading r (readGroup s)
+received r s = cond (runFits r) (afterReading r (readGroup s)) (record { run = r; answer = Refused 9 })

@@ -20,7 +20,7 @@ impl Group {
     // Programme types and words are below these.
     pub const PROGRAMME_TYPES: u8 = 32;
 
-    pub const WORDS: u64 = 0x20_0000_0000;
+    pub const WORD_LIMIT: u64 = 0x20_0000_0000;
 
     // The empty group: no programme, word 0.
     pub fn new() -> Self
@@ -78,7 +78,7 @@ impl Group {
 fn group_fits(g: Group) -> bool
     ensures { λ r. ⌜ r ≡ fits groupFormat (groupValues g) ⌝ }
 {
-    (g.tp < 2) & (g.pty < Group::PROGRAMME_TYPES) & (g.word < Group::WORDS)
+    (g.tp < 2) & (g.pty < Group::PROGRAMME_TYPES) & (g.word < Group::WORD_LIMIT)
 }
 
 // The 64 bits of a group as a number.

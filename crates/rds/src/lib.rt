@@ -3,6 +3,7 @@ mod format;
 mod repeat;
 
 // What a type 8A group carries besides its type.
+#[repr(C)]
 pub struct Group {
     pub pi: u16,
     pub tp: u8,

@@ -1,6 +1,6 @@
 // The repeat rule: a run of equal words counts as one valid word, at its second member.
 ghost use mathlib.Core.Path.{_≡_};
-ghost use Rattle.rds.specs.Repeat.{received, heard, begun as Repeat·begun};
+ghost use Rattle.rds.specs.Repeat.{received, runFits, heard, begun as Repeat·begun};
 use crate::Answer;
 use crate::Group;
 use crate::Reading;
@@ -15,10 +15,17 @@ impl Run {
         Run::Empty
     }
 
-    // Receives the bytes of a group. A refused group (1 or 2) leaves the run as it is.
+    // Receives the bytes of a group. A run that no groups give is refused (9), and then a group that is none of type 8A (1 or 2). A
+    // refusal leaves the run as it is.
     pub fn receive(self, group: &[u8]) -> Step
         ensures { λ r. ⌜ r ≡ received self (now (group .entry)) ⌝ }
     {
+        if !self.fits() {
+            return Step {
+                run: self,
+                answer: Answer::Refused(9),
+            };
+        }
         let reading = Group::read(group);
         match reading {
             Reading::Taken(g) => self.take(g.word),
@@ -29,8 +36,19 @@ impl Run {
         }
     }
 
+    // Whether groups can give the run: a word has 37 bits.
+    fn fits(self) -> bool
+        ensures { λ r. ⌜ r ≡ runFits self ⌝ }
+    {
+        match self {
+            Run::Empty => true,
+            Run::One(word) => word < Group::WORD_LIMIT,
+            Run::More(word) => word < Group::WORD_LIMIT,
+        }
+    }
+
     // Takes the next word among the 8A groups.
-    pub fn take(self, word: u64) -> Step
+    fn take(self, word: u64) -> Step
         ensures { λ r. ⌜ r ≡ heard self word ⌝ }
     {
         match self {

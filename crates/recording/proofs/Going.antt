@@ -13,8 +13,8 @@ use Rattle.session.specs.declared.Session.{Session}
 use Rattle.framing.specs.declared.Frame.{Frame}
 use Rattle.framing.specs.declared.Frame.the-variants.{End, Part, Bad, Whole}
 use Rattle.framing.specs.Frame.{frameOf}
-use Rattle.session.specs.Session.{next, afterRecord, recordText, recordRoom}
-use Rattle.recording.specs.Listing.{recordIn, linesFrom, whole, endedAt, refusedAt, linesLeft, Listed}
+use Rattle.session.specs.Session.{next, afterFrame, frameText, frameRoom}
+use Rattle.recording.specs.Listing.{frameIn, linesFrom, whole, endedAt, refusedAt, linesLeft, Listed}
 use Rattle.recording.proofs.Lines.{whole-there, whole-lines, end-lines}
 
 -- text up to a cell, and the cells after it, once more text is put there
@@ -64,8 +64,8 @@ module _ (s : Session) (input : List ℕ) (last : Bool) (out₀ : List ℕ) (now
       ∙ drop-drop (length t) at out₀
       ∙ ap (λ (n : ℕ). drop n out₀) (sym (p .0))
 
-  -- a whole record is told
-  pub going-next : (n : ℕ) (after : Session) → frameOf (drop from input) ≡ Whole n → t ≡ recordText now (recordIn n (drop from input)) → after ≡ afterRecord now (recordIn n (drop from input)) → e ≤ length out′ → length out′ ≡ length out → Going s input last out₀ after (from + 2 + n) e out′
+  -- a whole frame is told
+  pub going-next : (n : ℕ) (after : Session) → frameOf (drop from input) ≡ Whole n → t ≡ frameText now (frameIn n (drop from input)) → after ≡ afterFrame now (frameIn n (drop from input)) → e ≤ length out′ → length out′ ≡ length out → Going s input last out₀ after (from + 2 + n) e out′
   going-next n after f text session inside kept =
       let there = whole-there (drop from input) n f in
       record {
@@ -84,8 +84,8 @@ module _ (s : Session) (input : List ℕ) (last : Bool) (out₀ : List ℕ) (now
             ∙ ap (λ (l : List ℕ). l ++ linesFrom after (drop (from + 2 + n) input ++ rest)) (sym front);
       }
 
-  -- no whole record is left
-  pub going-end : (frame : Frame) (ended : Bool) → frameOf (drop from input) ≡ frame → whole frame ≡ false → t ≡ cond (refusedAt frame last) (refusalLine (next (now .records)) 1) [] → ended ≡ endedAt frame last → e ≤ length out′ → Listed s input last out₀ (record { session = now; taken = from; written = e; ended = ended }) out′
+  -- no whole frame is left
+  pub going-end : (frame : Frame) (ended : Bool) → frameOf (drop from input) ≡ frame → whole frame ≡ false → t ≡ cond (refusedAt frame last) (refusalLine (next (now .frames)) 1) [] → ended ≡ endedAt frame last → e ≤ length out′ → Listed s input last out₀ (record { session = now; taken = from; written = e; ended = ended }) out′
   going-end frame ended f w text is inside =
       record {
         within = (g .taken, inside);
@@ -101,14 +101,14 @@ module _ (s : Session) (input : List ℕ) (last : Bool) (out₀ : List ℕ) (now
         far = λ open′. inr (waits last frame w (sym is ∙ open′), ap whole f ∙ w);
       }
 
--- there is less room than a record may take
-pub going-full : (s : Session) (input : List ℕ) (last : Bool) (out₀ : List ℕ) (now : Session) (from at : ℕ) (out : List ℕ) → Going s input last out₀ now from at out → length out < at + recordRoom → Listed s input last out₀ (record { session = now; taken = from; written = at; ended = false }) out
+-- there is less room than a frame may take
+pub going-full : (s : Session) (input : List ℕ) (last : Bool) (out₀ : List ℕ) (now : Session) (from at : ℕ) (out : List ℕ) → Going s input last out₀ now from at out → length out < at + frameRoom → Listed s input last out₀ (record { session = now; taken = from; written = at; ended = false }) out
 going-full s input last out₀ now from at out g h =
     record { within = (g .taken, g .written); others = g .others; text = g .text; far = λ e. inl (omega (arith, h, g .same)) }
 
--- the record of n bytes after the length at a place, as a part of all
-pub record-part : (i n : ℕ) (l : List ℕ) → take (i + 2 + n - (i + 2)) (drop (i + 2) l) ≡ recordIn n (drop i l)
-record-part i n l = let same : i + 2 + n - (i + 2) ≡ n = omega arith in ap₂ take same (sym (drop-drop 2 i l))
+-- the frame of n bytes after the length at an index, as a part of all
+pub frame-part : (i n : ℕ) (l : List ℕ) → take (i + 2 + n - (i + 2)) (drop (i + 2) l) ≡ frameIn n (drop i l)
+frame-part i n l = let same : i + 2 + n - (i + 2) ≡ n = omega arith in ap₂ take same (sym (drop-drop 2 i l))
 
-pub record-length : (n : ℕ) (l : List ℕ) → 2 + n ≤ length l → length (recordIn n l) ≡ n
-record-length n l h = length-take-le n (drop 2 l) (omega (arith, length-drop 2 l))
+pub frame-length : (n : ℕ) (l : List ℕ) → 2 + n ≤ length l → length (frameIn n l) ≡ n
+frame-length n l h = length-take-le n (drop 2 l) (omega (arith, length-drop 2 l))

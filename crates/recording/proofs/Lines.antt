@@ -1,5 +1,5 @@
 -- The law by which `linesFrom` is read, and the lines of an input that comes in pieces.
-use Prim.Native.Nat.{ℕ, zero, suc, _+_, _-_, _≤_, _<_}
+use Prim.Native.Nat.{ℕ, zero, suc, _+_, _≤_, _<_}
 use native.Mathlib.Omega.{arith}
 use mathlib.Core.Path.{_≡_, refl, sym, ap, ap₂, _∙_}
 use mathlib.Core.Bool.{Bool, true, false, cond}
@@ -14,10 +14,10 @@ use Rattle.session.specs.declared.Session.{Session}
 use Rattle.framing.specs.declared.Frame.{Frame}
 use Rattle.framing.specs.declared.Frame.the-variants.{End, Part, Bad, Whole}
 use Rattle.framing.specs.Frame.{little, lengthFits, framed, frameOf}
-use Rattle.session.specs.Session.{next, afterRecord, recordText}
-use Rattle.recording.specs.Listing.{recordIn, fromFrame, linesBy, linesFrom, whole, endedAt, refusedAt, linesLeft}
+use Rattle.session.specs.Session.{next, afterFrame, frameText}
+use Rattle.recording.specs.Listing.{frameIn, fromFrame, linesBy, linesFrom, whole, endedAt, refusedAt, linesLeft}
 
--- a whole record of n bytes after its length: 2 to 130, and they are there
+-- a whole frame of n bytes after its length: 2 to 130, and they are there
 framed-whole : (m there n : ℕ) (b d : Bool) → lengthFits m ≡ b → leb m there ≡ d → cond b (cond d (Whole m) Part) Bad ≡ Whole n → (2 ≤ n) × (n ≤ there)
 framed-whole m there n true true p q e =
     let same : m ≡ n = cc in
@@ -33,15 +33,15 @@ whole-there (a ∷ b ∷ input) n e =
     let w = framed-whole (little a b) (length input) n (lengthFits (little a b)) (leb (little a b) (length input)) refl refl e in
     (w .0, omega (arith, w .1))
 
--- lines by the frame, where the lines of what follows a whole record are the same
+-- lines by the frame, where the lines of what follows a whole frame are the same
 same-frame : (f g : Session → List ℕ → List ℕ) (s : Session) (input : List ℕ) (frame : Frame) → ((n : ℕ) → frame ≡ Whole n → (t : Session) → f t (drop (2 + n) input) ≡ g t (drop (2 + n) input)) → fromFrame f s input frame ≡ fromFrame g s input frame
 unfolding fromFrame
 same-frame f g s input End h = refl
 same-frame f g s input Part h = refl
 same-frame f g s input Bad h = refl
-same-frame f g s input (Whole n) h = ap (λ (l : List ℕ). recordText s (recordIn n input) ++ l) (h n refl (afterRecord s (recordIn n input)))
+same-frame f g s input (Whole n) h = ap (λ (l : List ℕ). frameText s (frameIn n input) ++ l) (h n refl (afterFrame s (frameIn n input)))
 
--- a record takes some of the input
+-- a frame takes some of the input
 shorter : (input : List ℕ) (n : ℕ) → frameOf input ≡ Whole n → length (drop (2 + n) input) < length input
 shorter input n e = omega (arith, length-drop (2 + n) input, whole-there input n e)
 
@@ -58,7 +58,7 @@ unfolding linesFrom linesBy
 lines-law s input =
     same-frame (linesBy (length input)) linesFrom s input (frameOf input) (λ n e t. enough (length input) (suc (length (drop (2 + n) input))) t (drop (2 + n) input) (shorter input n e) (omega arith))
 
--- a whole record stays one whatever follows, and so does a length that no record has
+-- a whole frame stays one whatever follows, and so does a length that no frame has
 framed-more : (m there more n : ℕ) (b d : Bool) → there ≤ more → lengthFits m ≡ b → leb m there ≡ d → cond b (cond d (Whole m) Part) Bad ≡ Whole n → framed m more ≡ Whole n
 unfolding framed
 framed-more m there more n true true h p q e =
@@ -96,19 +96,19 @@ none-left [] e = refl
 none-left (a ∷ []) e = let z : _≡_ {A = ℕ} 0 1 = cc in absurd (omega arith)
 none-left (a ∷ b ∷ l) e = absurd (framed-some (little a b) (lengthFits (little a b)) (leb (little a b) (length l)) e)
 
--- a whole record prints its lines, and the rest follows
-pub whole-lines : (s : Session) (l rest : List ℕ) (n : ℕ) → frameOf l ≡ Whole n → linesFrom s (l ++ rest) ≡ recordText s (recordIn n l) ++ linesFrom (afterRecord s (recordIn n l)) (drop (2 + n) l ++ rest)
+-- a whole frame prints its lines, and the rest follows
+pub whole-lines : (s : Session) (l rest : List ℕ) (n : ℕ) → frameOf l ≡ Whole n → linesFrom s (l ++ rest) ≡ frameText s (frameIn n l) ++ linesFrom (afterFrame s (frameIn n l)) (drop (2 + n) l ++ rest)
 unfolding fromFrame
 whole-lines s l rest n e =
     let there = whole-there l n e in
-    let same : recordIn n (l ++ rest) ≡ recordIn n l =
+    let same : frameIn n (l ++ rest) ≡ frameIn n l =
     ap (take n) (drop-append-le 2 l rest (omega (arith, there))) ∙ take-append-le n (drop 2 l) rest (omega (arith, there, length-drop 2 l)) in
     lines-law s (l ++ rest)
     ∙ ap (fromFrame linesFrom s (l ++ rest)) (whole-more l rest n e)
-    ∙ ap₂ (λ (r t : List ℕ). recordText s r ++ linesFrom (afterRecord s r) t) same (drop-append-le (2 + n) l rest (there .1))
+    ∙ ap₂ (λ (r t : List ℕ). frameText s r ++ linesFrom (afterFrame s r) t) same (drop-append-le (2 + n) l rest (there .1))
 
--- bytes that begin with no whole record
-pub end-lines : (s : Session) (l rest : List ℕ) (last : Bool) (frame : Frame) → frameOf l ≡ frame → whole frame ≡ false → (last ≡ true → rest ≡ []) → linesFrom s (l ++ rest) ≡ cond (refusedAt frame last) (refusalLine (next (s .records)) 1) [] ++ linesLeft (endedAt frame last) s (l ++ rest)
+-- bytes that begin with no whole frame
+pub end-lines : (s : Session) (l rest : List ℕ) (last : Bool) (frame : Frame) → frameOf l ≡ frame → whole frame ≡ false → (last ≡ true → rest ≡ []) → linesFrom s (l ++ rest) ≡ cond (refusedAt frame last) (refusalLine (next (s .frames)) 1) [] ++ linesLeft (endedAt frame last) s (l ++ rest)
 unfolding fromFrame frameOf whole endedAt refusedAt
 end-lines s l rest true End e w h = ap₂ (λ (x y : List ℕ). linesFrom s (x ++ y)) (none-left l e) (h refl) ∙ lines-law s []
 end-lines s l rest false End e w h = refl
@@ -117,8 +117,8 @@ end-lines s l rest true Part e w h =
     ∙ ap (linesFrom s) (append-nil l)
     ∙ lines-law s l
     ∙ ap (fromFrame linesFrom s l) e
-    ∙ sym (append-nil (refusalLine (next (s .records)) 1))
+    ∙ sym (append-nil (refusalLine (next (s .frames)) 1))
 end-lines s l rest false Part e w h = refl
 end-lines s l rest last Bad e w h =
-    lines-law s (l ++ rest) ∙ ap (fromFrame linesFrom s (l ++ rest)) (bad-more l rest e) ∙ sym (append-nil (refusalLine (next (s .records)) 1))
+    lines-law s (l ++ rest) ∙ ap (fromFrame linesFrom s (l ++ rest)) (bad-more l rest e) ∙ sym (append-nil (refusalLine (next (s .frames)) 1))
 end-lines s l rest last (Whole n) e w h = let z : _≡_ {A = ℕ} 0 1 = cc in absurd (omega arith)

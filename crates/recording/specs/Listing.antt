@@ -7,25 +7,27 @@ use mathlib.Core.List.{List, [], _++_}
 use lib.ListN.{length, take, drop}
 use Rattle.lines.specs.Line.{header, refusalLine}
 use Rattle.framing.specs.Frame.{frameOf}
-use Rattle.session.specs.Session.{start, next, afterRecord, recordText, recordRoom}
+use Rattle.session.specs.Session.{start, next, afterFrame, frameText, frameRoom}
 use Rattle.session.specs.declared.Session.{Session}
 use Rattle.recording.specs.declared.Progress.{Progress}
+use Rattle.recording.specs.declared.Answer.{Answer}
+use Rattle.recording.specs.declared.Answer.the-variants as answer
 use Rattle.framing.specs.declared.Frame.{Frame}
 use Rattle.framing.specs.declared.Frame.the-variants.{End, Part, Bad, Whole}
 
--- the kind and body of a record of n bytes after its length
-abbrev pub recordIn : ℕ → List ℕ → List ℕ
-recordIn n input = take n (drop 2 input)
+-- the kind and body of a frame of n bytes after its length
+abbrev pub frameIn : ℕ → List ℕ → List ℕ
+frameIn n input = take n (drop 2 input)
 
--- by what the input begins with: a whole record prints its lines and the rest follows; a cut record and a length that no record has
+-- by what the input begins with: a whole frame prints its lines and the rest follows; a cut frame and a length that no frame has
 -- print refusal 1 and end
 unfoldable pub fromFrame : (Session → List ℕ → List ℕ) → Session → List ℕ → Frame → List ℕ
 fromFrame rest s input End = []
-fromFrame rest s input Part = refusalLine (next (s .records)) 1
-fromFrame rest s input Bad = refusalLine (next (s .records)) 1
-fromFrame rest s input (Whole n) = recordText s (recordIn n input) ++ rest (afterRecord s (recordIn n input)) (drop (2 + n) input)
+fromFrame rest s input Part = refusalLine (next (s .frames)) 1
+fromFrame rest s input Bad = refusalLine (next (s .frames)) 1
+fromFrame rest s input (Whole n) = frameText s (frameIn n input) ++ rest (afterFrame s (frameIn n input)) (drop (2 + n) input)
 
--- the lines of an input, by a bound on its records that no input meets
+-- the lines of an input, by a bound on its frames that no input meets
 unfoldable pub linesBy : ℕ → Session → List ℕ → List ℕ
 linesBy zero s input = []
 linesBy (suc more) s input = fromFrame (linesBy more) s input (frameOf input)
@@ -38,7 +40,7 @@ linesFrom s input = linesBy (suc (length input)) s input
 unfoldable pub listing : List ℕ → List ℕ
 listing input = header ++ linesFrom start input
 
--- whether a record is whole
+-- whether a frame is whole
 unfoldable pub whole : Frame → Bool
 whole End = false
 whole Part = false
@@ -68,4 +70,9 @@ pub record Listed (s : Session) (input : List ℕ) (last : Bool) (out : List ℕ
   pub within : (p .taken ≤ length input) × (p .written ≤ length out′)
   pub others : drop (p .written) out′ ≡ drop (p .written) out
   pub text : (rest : List ℕ) → (last ≡ true → rest ≡ []) → linesFrom s (input ++ rest) ≡ take (p .written) out′ ++ linesLeft (p .ended) (p .session) (drop (p .taken) input ++ rest)
-  pub far : p .ended ≡ false → (length out < p .written + recordRoom) ⊎ ((last ≡ false) × (whole (frameOf (drop (p .taken) input)) ≡ false))
+  pub far : p .ended ≡ false → (length out < p .written + frameRoom) ⊎ ((last ≡ false) × (whole (frameOf (drop (p .taken) input)) ≡ false))
+
+-- what a call answers: refusal 15 for a buffer that the text of a frame may not fit into, which stays as it is; else how far it got
+unfoldable pub Answered : Session → List ℕ → Bool → List ℕ → Answer → List ℕ → Type 0
+Answered s input last out (answer.Listed p) out′ = (frameRoom ≤ length out) × Listed s input last out p out′
+Answered s input last out (answer.Refused n) out′ = (length out < frameRoom) × (n ≡ 15) × (out′ ≡ out)

@@ -1,4 +1,4 @@
--- Words to their lines, one after the other, and the body of a record.
+-- Words to their lines, one after the other, and the body of a frame.
 use Prim.Native.Nat.{ℕ, _+_, _-_, _<_}
 use native.Mathlib.Nat.{add-zero}
 use native.Mathlib.Omega.{arith}
@@ -17,9 +17,9 @@ use Rattle.session.specs.Session.{afterWord, wordText, afterWords, words
 pub put-nothing : (a : ℕ) (l : List ℕ) → Put a [] l a l
 put-nothing a l = (sym (add-zero a), sym (put-none a l))
 
--- a session with another run and record number
+-- a session with another run and frame number
 abbrev pub counted-in : Session → Run → ℕ → Session
-counted-in s r n = record { assembler = s .assembler; run = r; records = n; reports = s .reports }
+counted-in s r n = record { assembler = s .assembler; run = r; frames = n; reports = s .reports }
 
 -- the next of some words, and the others after it
 from-word : (ws : List ℕ) (i : ℕ) → i < length ws → drop i ws ≡ getD ws i 0 ∷ drop (i + 1) ws
@@ -34,6 +34,6 @@ module _ (s t : Session) (ws : List ℕ) (i : ℕ) (h : i < length ws) (e : t �
   unfolding wordsText
   text-next = ap (wordsText s) (from-word ws i h) ∙ sym (ap (λ (x : Session). wordText s (getD ws i 0) ++ wordsText x (drop (i + 1) ws)) e)
 
--- the bytes from a place on, as a part of all
+-- the bytes from an index on, as a part of all
 pub tail-part : (i : ℕ) (l : List ℕ) → take (length l - i) (drop i l) ≡ drop i l
 tail-part i l = take-all (length l - i) (drop i l) (omega (arith, length-drop i l))

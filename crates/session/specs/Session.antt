@@ -1,4 +1,4 @@
--- What a word and a record print, and the session after them (document 01, "The listing program").
+-- What a word and a frame print, and the session after them (document 01, "The listing program").
 use Prim.Native.Nat.{ℕ, _+_, _*_, _%_, _^_}
 use mathlib.Core.List.{List, [], _∷_, _++_}
 use lib.ListN.{drop}
@@ -9,19 +9,20 @@ use Rattle.assembler.specs.declared.Assembler.the-variants as assembler
 use Rattle.assembler.specs.declared.Answer.{Answer}
 use Rattle.assembler.specs.declared.Answer.the-variants as answer
 use Rattle.assembler.specs.declared.Step.{Step}
+use Rattle.report.specs.Read.{readReport}
 use Rattle.assembler.specs.Step.{stepOf}
 use Rattle.lines.specs.Line.{reportLine, refusalLine, room}
 use Rattle.framing.specs.Frame.{kindOf}
 use Rattle.carriers.specs.Carried.{Carries, gives, refuses, mostWords, carriedBy, runAfter}
 use Rattle.session.specs.declared.Session.{Session}
 
--- numbers count from 1; they are held in 64 bits
+-- numbers count from 1; they have 64 bits
 abbrev pub next : ℕ → ℕ
 next n = (n + 1) % 2 ^ 64
 
--- before any record
+-- before any frame
 abbrev pub start : Session
-start = record { assembler = assembler.Empty; run = run.Empty; records = 0; reports = 0 }
+start = record { assembler = assembler.Empty; run = run.Empty; frames = 0; reports = 0 }
 
 -- the number of the last report, after an answer
 unfoldable pub counted : Answer → ℕ → ℕ
@@ -33,24 +34,24 @@ counted (answer.Refused k) n = n
 
 -- a report or a refusal prints its line; nothing yet, tuning and administration words print nothing
 unfoldable pub answerText : Answer → Report → ℕ → ℕ → List ℕ
-answerText answer.Nothing r number place = []
-answerText answer.Report r number place = reportLine number r
-answerText (answer.Tuning w) r number place = []
-answerText (answer.Administration w) r number place = []
-answerText (answer.Refused n) r number place = refusalLine place n
+answerText answer.Nothing r number frame = []
+answerText answer.Report r number frame = reportLine number r
+answerText (answer.Tuning w) r number frame = []
+answerText (answer.Administration w) r number frame = []
+answerText (answer.Refused n) r number frame = refusalLine frame n
 
 -- one word
 abbrev pub afterStep : Session → Step → Session
-afterStep s step = record { assembler = step .next; run = s .run; records = s .records; reports = counted (step .answer) (s .reports) }
+afterStep s step = record { assembler = step .next; run = s .run; frames = s .frames; reports = counted (step .answer) (s .reports) }
 
 abbrev pub stepText : Session → Step → List ℕ
-stepText s step = answerText (step .answer) (step .report) (counted (step .answer) (s .reports)) (s .records)
+stepText s step = answerText (step .answer) (step .report) (counted (step .answer) (s .reports)) (s .frames)
 
 unfoldable pub afterWord : Session → ℕ → Session
-afterWord s w = afterStep s (stepOf (s .assembler) w)
+afterWord s w = afterStep s (stepOf readReport (s .assembler) w)
 
 unfoldable pub wordText : Session → ℕ → List ℕ
-wordText s w = stepText s (stepOf (s .assembler) w)
+wordText s w = stepText s (stepOf readReport (s .assembler) w)
 
 -- words in order; a refused one does not end them
 unfoldable pub afterWords : Session → List ℕ → Session
@@ -61,28 +62,28 @@ unfoldable pub wordsText : Session → List ℕ → List ℕ
 wordsText s [] = []
 wordsText s (w ∷ ws) = wordText s w ++ wordsText (afterWord s w) ws
 
--- what a record carries
+-- what a frame carries
 unfoldable pub afterCarried : Session → Carries → Session
 afterCarried s (gives ws) = afterWords s ws
 afterCarried s (refuses n) = s
 
 unfoldable pub carriedText : Session → Carries → List ℕ
 carriedText s (gives ws) = wordsText s ws
-carriedText s (refuses n) = refusalLine (s .records) n
+carriedText s (refuses n) = refusalLine (s .frames) n
 
--- one record, its kind and body: it is counted, and then what it carries
+-- one frame, its kind and body: it is counted, and then what it carries
 abbrev pub counting : Session → Run → Session
-counting s r = record { assembler = s .assembler; run = r; records = next (s .records); reports = s .reports }
+counting s r = record { assembler = s .assembler; run = r; frames = next (s .frames); reports = s .reports }
 
 abbrev pub entered : Session → List ℕ → Session
 entered s r = counting s (runAfter (kindOf r) (s .run) (drop 2 r))
 
-unfoldable pub afterRecord : Session → List ℕ → Session
-afterRecord s r = afterCarried (entered s r) (carriedBy (kindOf r) (s .run) (drop 2 r))
+unfoldable pub afterFrame : Session → List ℕ → Session
+afterFrame s r = afterCarried (entered s r) (carriedBy (kindOf r) (s .run) (drop 2 r))
 
-unfoldable pub recordText : Session → List ℕ → List ℕ
-recordText s r = carriedText (entered s r) (carriedBy (kindOf r) (s .run) (drop 2 r))
+unfoldable pub frameText : Session → List ℕ → List ℕ
+frameText s r = carriedText (entered s r) (carriedBy (kindOf r) (s .run) (drop 2 r))
 
--- the most text that a record gives
-abbrev pub recordRoom : ℕ
-recordRoom = mostWords * room
+-- the most text that a frame gives
+abbrev pub frameRoom : ℕ
+frameRoom = mostWords * room

@@ -1,11 +1,11 @@
-// A session of the listing: what is held between two records, and one word and one record to their lines.
+// A session of the listing: what is kept between two frames, and one word and one frame to their lines.
 ghost use mathlib.Core.Path.{_≡_};
 ghost use Prim.Native.Nat.{_+_, _*_, _≤_};
 ghost use lib.ListN.{length};
 ghost use Rattle.lines.specs.Text.{Put};
 ghost use Rattle.lines.specs.Line.{room};
 ghost use Rattle.framing.specs.Frame.{kindOf as Frame·kindOf};
-ghost use Rattle.session.specs.Session.{start, answerText, counted as Session·counted, next as Session·next, afterWord, wordText, afterWords, wordsText, afterRecord, recordText, recordRoom};
+ghost use Rattle.session.specs.Session.{start, answerText, counted as Session·counted, next as Session·next, afterWord, wordText, afterWords, wordsText, afterFrame, frameText, frameRoom};
 use assembler::Answer;
 use assembler::Assembler;
 use carriers::Carried;
@@ -17,42 +17,42 @@ use lines::line::put_report;
 use rds::Run;
 use report::Report;
 
-// What is held between two records.
+// What is kept between two frames.
 pub struct Session {
     // One assembler serves all kinds.
     pub assembler: Assembler,
-    // The run of equal words over all RDS records.
+    // The run of equal words over all RDS frames.
     pub run: Run,
-    // The numbers of the last record and of the last report.
-    pub records: u64,
+    // The numbers of the last frame and of the last report.
+    pub frames: u64,
     pub reports: u64,
 }
 
-// The session after some text was put, and the place after that text.
+// The session after some text was put, and the index after that text.
 pub struct Told {
     pub session: Session,
     pub at: usize,
 }
 
 impl Session {
-    // The bytes of a record's kind.
+    // The bytes of a frame's kind.
     pub const KIND: usize = 2;
-    // The most text that a record gives.
+    // The most text that a frame gives.
     pub const ROOM: usize = Carried::WORDS * ROOM;
 
-    // The session before any record.
+    // The session before any frame.
     pub fn new() -> Self
         ensures { λ r. ⌜ r ≡ start ⌝ }
     {
         Session {
             assembler: Assembler::Empty,
             run: Run::Empty,
-            records: 0,
+            frames: 0,
             reports: 0,
         }
     }
 
-    // Takes a word of the last record to its line, if it has one.
+    // Takes a word of the last frame to its line, if it has one.
     fn word(self, word: u64, out: &mut [u8], at: usize) -> Told
         requires { ⌜ at + room ≤ length (now out) ⌝ }
         ensures { λ r. ⌜ r .session ≡ afterWord self word ⌝ }
@@ -66,19 +66,19 @@ impl Session {
         let answer = step.answer;
         let report = step.report;
         let reports = counted(answer, self.reports);
-        let end = put_answer(out, at, answer, report, reports, self.records);
+        let end = put_answer(out, at, answer, report, reports, self.frames);
         Told {
             session: Session {
                 assembler: next,
                 run,
-                records: self.records,
+                frames: self.frames,
                 reports,
             },
             at: end,
         }
     }
 
-    // Takes the words of the last record to their lines, in order.
+    // Takes the words of the last frame to their lines, in order.
     fn words(self, words: &[u64], out: &mut [u8], at: usize) -> Told
         requires { ⌜ at + length (now words) * room ≤ length (now out) ⌝ }
         ensures { λ r. ⌜ r .session ≡ afterWords self (now (words .entry)) ⌝ }
@@ -97,16 +97,16 @@ impl Session {
         Told { session, at: p }
     }
 
-    // Takes a record, its kind and body, to its lines. An inner call: it asks for the bytes of a kind and for `ROOM` in the buffer.
-    pub fn record(self, bytes: &[u8], out: &mut [u8], at: usize) -> Told
-        requires { ⌜ (2 ≤ length (now bytes)) × (at + recordRoom ≤ length (now out)) ⌝ }
-        ensures { λ r. ⌜ r .session ≡ afterRecord self (now (bytes .entry)) ⌝ }
-        ensures { λ r. ⌜ Put at (recordText self (now (bytes .entry))) (now (out .entry)) (r .at) (now (out .exit)) ⌝ }
-        ensures { λ r. ⌜ r .at ≤ at + recordRoom ⌝ }
+    // Takes a frame, its kind and body, to its lines. An inner call: it asks for the bytes of a kind and for `ROOM` in the buffer.
+    pub fn frame(self, bytes: &[u8], out: &mut [u8], at: usize) -> Told
+        requires { ⌜ (2 ≤ length (now bytes)) × (at + frameRoom ≤ length (now out)) ⌝ }
+        ensures { λ r. ⌜ r .session ≡ afterFrame self (now (bytes .entry)) ⌝ }
+        ensures { λ r. ⌜ Put at (frameText self (now (bytes .entry))) (now (out .entry)) (r .at) (now (out .exit)) ⌝ }
+        ensures { λ r. ⌜ r .at ≤ at + frameRoom ⌝ }
     {
         let assembler = self.assembler;
         let run = self.run;
-        let records = next(self.records);
+        let frames = next(self.frames);
         let kind = kind_of(bytes);
         let body = Session::KIND;
         let mut words = [0u64; Carried::WORDS];
@@ -116,13 +116,13 @@ impl Session {
         let session = Session {
             assembler,
             run: after,
-            records,
+            frames,
             reports: self.reports,
         };
         match carried {
             Carried::Words(n) => session.words(&words[..n], out, at),
             Carried::Refused(n) => {
-                let end = put_refusal(out, at, records, n);
+                let end = put_refusal(out, at, frames, n);
                 Told { session, at: end }
             }
         }
@@ -164,15 +164,15 @@ fn put_answer(
     answer: Answer,
     report: Report,
     number: u64,
-    place: u64,
+    frame: u64,
 ) -> usize
     requires { ⌜ at + room ≤ length (now out) ⌝ }
-    ensures { λ r. ⌜ Put at (answerText answer report number place) (now (out .entry)) r (now (out .exit)) ⌝ }
+    ensures { λ r. ⌜ Put at (answerText answer report number frame) (now (out .entry)) r (now (out .exit)) ⌝ }
     ensures { λ r. ⌜ r ≤ at + room ⌝ }
 {
     match answer {
         Answer::Report => put_report(out, at, number, report),
-        Answer::Refused(n) => put_refusal(out, at, place, n),
+        Answer::Refused(n) => put_refusal(out, at, frame, n),
         Answer::Nothing => at,
         Answer::Tuning(_) => at,
         Answer::Administration(_) => at,

@@ -4,7 +4,6 @@ use mathlib.Core.Path.{_≡_, refl, sym, ap, _∙_}
 use mathlib.Core.Bool.{Bool, true, false}
 use mathlib.Core.List.{List}
 use native.Mathlib.Omega.{arith}
-use lib.ListN.{getD}
 use Rattle.bits.specs.Bits.{bits, val}
 use Rattle.bits.specs.Fields.{size, unpack, pack, fits}
 use Rattle.bits.proofs.Choice.{chosen, passed-over}
@@ -14,7 +13,7 @@ use Rattle.system.specs.declared.System.{System}
 use Rattle.system.specs.declared.System.the-variants.{Table, Service}
 use Rattle.system.specs.declared.Reading.the-variants.{Taken}
 use Rattle.system.specs.declared.Writing.the-variants.{Word, Refused}
-use Rattle.system.specs.Format.{tableFormat, serviceFormat}
+use Rattle.system.specs.Format.{variantIn, tableFormat, serviceFormat}
 use Rattle.system.specs.Read.{systemOf, systemBy}
 use Rattle.system.specs.Write.{wordOf, written, tableValues, serviceValues}
 
@@ -34,7 +33,7 @@ fields-back ws vs e n h =
     ∙ unpack-pack ws vs (got .0)
 
 -- both formats begin with the variant
-same-variant : (n : ℕ) → getD (unpack tableFormat (bits 16 n)) 0 0 ≡ getD (unpack serviceFormat (bits 16 n)) 0 0
+same-variant : (n : ℕ) → variantIn (unpack tableFormat (bits 16 n)) ≡ variantIn (unpack serviceFormat (bits 16 n))
 same-variant n = rw (unpack-bits tableFormat, unpack-bits serviceFormat)
 
 pub write-read : (s : System) (n : ℕ) → written s ≡ Word n → systemOf n ≡ Taken s

@@ -2,7 +2,6 @@
 use Prim.Native.Nat.{ℕ}
 use mathlib.Core.Bool.{cond}
 use mathlib.Core.List.{List}
-use lib.ListN.{getD}
 use lib.Dec.{eqb}
 use Rattle.bits.specs.Bits.{bits}
 use Rattle.bits.specs.Fields.{unpack}
@@ -10,21 +9,21 @@ use Rattle.system.specs.declared.System.{System}
 use Rattle.system.specs.declared.System.the-variants.{Table, Service}
 use Rattle.system.specs.declared.Reading.{Reading}
 use Rattle.system.specs.declared.Reading.the-variants.{Taken, Refused}
-use Rattle.system.specs.Format.{tableFormat, serviceFormat}
+use Rattle.system.specs.Format.{variantIn, tableFormat, ltnIn, afiIn, modeIn, internationalIn, nationalIn, regionalIn, urbanIn, serviceFormat, gapIn, sidIn, taIn, twIn, tdIn}
 
 -- variant 0, from its fields; the reserved bits are read over
 abbrev pub tableOf : List ℕ → System
-tableOf f = Table (getD f 2 0) (getD f 3 0) (getD f 4 0) (getD f 5 0) (getD f 6 0) (getD f 7 0) (getD f 8 0)
+tableOf f = Table (ltnIn f) (afiIn f) (modeIn f) (internationalIn f) (nationalIn f) (regionalIn f) (urbanIn f)
 
 -- variant 1, from its fields
 abbrev pub serviceOf : List ℕ → System
-serviceOf f = Service (getD f 1 0) (getD f 2 0) (getD f 3 0) (getD f 4 0) (getD f 5 0)
+serviceOf f = Service (gapIn f) (sidIn f) (taIn f) (twIn f) (tdIn f)
 
--- by the variant, which stands first in both formats; refusal 2 for variants 2 and 3
+-- by the variant; refusal 2 for variants 2 and 3
 unfoldable pub systemBy : List ℕ → List ℕ → Reading
 systemBy t s =
-    cond (eqb (getD t 0 0) 0) (Taken (tableOf t))
-    (cond (eqb (getD s 0 0) 1) (Taken (serviceOf s))
+    cond (eqb (variantIn t) 0) (Taken (tableOf t))
+    (cond (eqb (variantIn s) 1) (Taken (serviceOf s))
     (Refused 2))
 
 unfoldable pub systemOf : ℕ → Reading

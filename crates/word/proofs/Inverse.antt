@@ -1,26 +1,24 @@
 -- Taking a word apart and composing it are inverse on every word.
-use Prim.Native.Nat.{ℕ, _/_, _%_, _^_, _<_, _≤_}
+use Prim.Native.Nat.{ℕ, _/_, _%_, _^_, _<_}
 use mathlib.Core.Path.{_≡_, refl, sym, ap, ap₂, subst, _∙_}
 use mathlib.Core.Bool.{Bool, true, false, _&&_, cond}
-use mathlib.Core.List.{List, [], _∷_}
+use mathlib.Core.List.{List, _∷_}
 use native.Mathlib.Nat.{mod-eq-of-lt}
 use native.Mathlib.Omega.{arith}
 use lib.ListN.{length, getD}
-use lib.Dec.{ltb, leb, eqb}
+use lib.Dec.{leb, eqb}
 use borrow.Author.Tests.{eqb-true, eqb-false, eq-eqb, ne-eqb, lt-leb, le-leb, leb-true, leb-false}
 use Rattle.bits.specs.Bits.{bits, val}
 use Rattle.bits.specs.Fields.{size, pack, unpack, fits}
 use Rattle.bits.proofs.Value.{length-bits, bits-val, val-bits-lt, val-lt}
 use Rattle.bits.proofs.Choice.{and-left, and-right}
 use Rattle.bits.proofs.Formats.{parts, unpack-bits, pack-unpack, unpack-pack, fits-unpack, length-pack}
-use Rattle.word.specs.declared.Head.{Head}
 use Rattle.word.specs.declared.Word.{Word}
 use Rattle.word.specs.declared.Word.the-variants.{Single, First, Later, Tuning, Administration, Index7, Beyond}
-use Rattle.word.specs.declared.Composed.{Composed}
 use Rattle.word.specs.declared.Composed.the-variants.{Number, Refused}
 use Rattle.word.specs.Format.{limit, headFormat, laterFormat, headFields, laterFields, flagT, flagF, lowX, topY, headOf}
 use Rattle.word.specs.Kind.{kindOf, kindBy, multiBy}
-use Rattle.word.specs.Compose.{composed, numberIf, headValues, singleValues, firstValues, laterValues, isIndex}
+use Rattle.word.specs.Compose.{composed, numberIf, singleValues, firstValues, laterValues, isIndex}
 use Rattle.word.proofs.Fields.{headFields-parts, laterFields-parts}
 
 -- the fields of a word in a format of 37 bits are in range, and pack to the word

@@ -3,4 +3,3 @@ pub mod Index
 pub mod Numbers
 pub mod Inverse
 pub mod UserGroups
-pub mod Examples

@@ -3,9 +3,7 @@ use Prim.Native.Nat.{ℕ, _+_, _*_, _^_, _<_}
 use mathlib.Core.Path.{_≡_, subst, ap, sym, _∙_}
 use mathlib.Core.Bool.{true}
 use mathlib.Core.List.{_∷_}
-use native.Mathlib.Omega.{arith}
 use lib.Dec.{ltb}
-use lib.ListN.{length}
 use Rattle.bits.specs.Bits.{val}
 use Rattle.bits.specs.Fields.{pack, fits}
 use Rattle.bits.proofs.Choice.{and-right}

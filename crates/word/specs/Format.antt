@@ -29,7 +29,7 @@ headFields n = unpack headFormat (bits 37 n)
 unfoldable pub laterFields : ℕ → List ℕ
 laterFields n = unpack laterFormat (bits 37 n)
 
--- what the two formats share
+-- the fields by name: those that the two formats share
 abbrev pub flagT : List ℕ → ℕ
 flagT f = getD f 0 0
 
@@ -42,6 +42,28 @@ lowX f = getD f 2 0
 abbrev pub topY : List ℕ → ℕ
 topY f = getD f 3 0
 
--- direction, extent, event and location of a word in the head format
+-- those of the head
+abbrev pub directionIn : List ℕ → ℕ
+directionIn f = getD f 4 0
+
+abbrev pub extentIn : List ℕ → ℕ
+extentIn f = getD f 5 0
+
+abbrev pub eventIn : List ℕ → ℕ
+eventIn f = getD f 6 0
+
+abbrev pub locationIn : List ℕ → ℕ
+locationIn f = getD f 7 0
+
 abbrev pub headOf : List ℕ → Head
-headOf f = record { direction = getD f 4 0; extent = getD f 5 0; event = getD f 6 0; location = getD f 7 0 }
+headOf f = record { direction = directionIn f; extent = extentIn f; event = eventIn f; location = locationIn f }
+
+-- those of a later group
+abbrev pub markIn : List ℕ → ℕ
+markIn f = getD f 4 0
+
+abbrev pub gsiIn : List ℕ → ℕ
+gsiIn f = getD f 5 0
+
+abbrev pub contentIn : List ℕ → ℕ
+contentIn f = getD f 6 0

@@ -2,11 +2,10 @@
 use Prim.Native.Nat.{ℕ}
 use mathlib.Core.Bool.{cond}
 use mathlib.Core.List.{List}
-use lib.ListN.{getD}
 use lib.Dec.{leb, eqb}
 use Rattle.word.specs.declared.Word.{Word}
 use Rattle.word.specs.declared.Word.the-variants.{Single, First, Later, Tuning, Administration, Index7, Beyond}
-use Rattle.word.specs.Format.{limit, headFields, laterFields, flagT, flagF, lowX, topY, headOf}
+use Rattle.word.specs.Format.{limit, headFields, laterFields, flagT, flagF, lowX, topY, headOf, markIn, gsiIn, contentIn}
 
 -- the kind of a word with T = 0 and F = 0, by its fields: h in the head format, l in the later group's
 unfoldable pub multiBy : ℕ → List ℕ → List ℕ → Word
@@ -14,7 +13,7 @@ multiBy n h l =
     cond (eqb (lowX h) 0) (Administration n)
     (cond (eqb (lowX h) 7) (Index7 n)
     (cond (eqb (topY h) 1) (First (lowX h) (headOf h))
-    (Later (lowX l) (getD l 4 0) (getD l 5 0) (getD l 6 0))))
+    (Later (lowX l) (markIn l) (gsiIn l) (contentIn l))))
 
 -- the kind of a word by T and F
 unfoldable pub kindBy : ℕ → List ℕ → List ℕ → Word

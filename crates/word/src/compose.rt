@@ -90,14 +90,14 @@ pub fn single_fits(duration: u8, diversion: u8, head: Head) -> bool
 }
 
 // Whether the fields of a first group are in their ranges.
-pub fn first_fits(ci: u8, head: Head) -> bool
+fn first_fits(ci: u8, head: Head) -> bool
     ensures { λ r. ⌜ r ≡ isIndex ci && fits headFormat (firstValues ci head) ⌝ }
 {
     is_index(ci) & head_fits(head)
 }
 
 // Whether the fields of a later group are in their ranges.
-pub fn later_fits(ci: u8, second: u8, gsi: u8, content: u32) -> bool
+fn later_fits(ci: u8, second: u8, gsi: u8, content: u32) -> bool
     ensures { λ r. ⌜ r ≡ isIndex ci && fits laterFormat (laterValues ci second gsi content) ⌝ }
 {
     is_index(ci) & (second < 2) & (gsi < 4) & (content < 0x1000_0000)

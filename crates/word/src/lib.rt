@@ -3,6 +3,7 @@ pub mod compose;
 mod parse;
 
 // What a single-group message and a first group share: Y14 to Y0 and Z.
+#[repr(C)]
 pub struct Head {
     pub direction: u8,
     pub extent: u8,

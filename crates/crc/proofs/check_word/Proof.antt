@@ -24,17 +24,8 @@ loop-holds : tie.Need-loop-holds Inv-loop μ-loop
 unfolding entered flat
 loop-holds c = (omega arith, refl)
 
-shared-slice-read-with-byte : tie.Need-shared-slice-read-with-byte Inv-loop μ-loop
-shared-slice-read-with-byte c = omega arith
-
 with-byte-requires : tie.Need-with-byte-requires Inv-loop μ-loop
 with-byte-requires c κs = tt
-
-add-i : tie.Need-add-i Inv-loop μ-loop
-add-i c = omega arith
-
-loop-less : tie.Need-loop-less Inv-loop μ-loop
-loop-less c = omega arith
 
 loop-again : tie.Need-loop-again Inv-loop μ-loop
 loop-again c =
@@ -61,9 +52,9 @@ check-word-spec =
     Inv-loop
     μ-loop
     loop-holds
-    shared-slice-read-with-byte
+    (λ c. omega arith)
     with-byte-requires
-    add-i
-    loop-less
+    (λ c. omega arith)
+    (λ c. omega arith)
     loop-again
     returns)

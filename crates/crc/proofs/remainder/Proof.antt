@@ -7,9 +7,6 @@ use borrow.Author.Needs.{needs}
 use Rattle.crc.proofs.remainder.Statement.{statement}
 use Rattle.crc.proofs.remainder.Tie as tie
 
-mul-result : tie.Need-mul-result
-mul-result c = search needs
-
 mul-result-2 : tie.Need-mul-result-2
 mul-result-2 c =
     let x = c .args .x in
@@ -20,4 +17,4 @@ returns : tie.Need-returns
 returns c = spread-right (c .args .x) (c .pre)
 
 pub remainder-spec : {M : Type 1} → statement M
-remainder-spec = tie.close (tie.spec mul-result mul-result-2 returns)
+remainder-spec = tie.close (tie.spec (search needs) mul-result-2 returns)

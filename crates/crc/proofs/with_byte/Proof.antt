@@ -14,9 +14,6 @@ remainder-requires c κs =
     let byte : c .args .byte < 256 = omega arith in
     xor-lt 8 (c .args .register / 256) (c .args .byte) high byte
 
-mul-result : tie.Need-mul-result
-mul-result c = search needs
-
 returns : tie.Need-returns
 returns c =
     let a = c .before .args in
@@ -24,4 +21,4 @@ returns c =
     ap (λ (x : ℕ). bitXor x (a .register % 256 * 256)) (c .remainder .ensures) ∙ byte-step (a .register) (a .byte) byte
 
 pub with-byte-spec : {M : Type 1} → statement M
-with-byte-spec = tie.close (tie.spec remainder-requires mul-result returns)
+with-byte-spec = tie.close (tie.spec remainder-requires (search needs) returns)

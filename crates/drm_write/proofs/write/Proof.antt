@@ -9,14 +9,8 @@ use borrow.Author.Needs.{needs}
 use Rattle.drm_write.proofs.write.Statement.{statement}
 use Rattle.drm_write.proofs.write.Tie as tie
 
-can-write-requires : tie.Need-can-write-requires
-can-write-requires c κs = search needs
-
 unit-length-requires : tie.Need-unit-length-requires
 unit-length-requires c κs = few-words _ _ (fitting _ _ (sym (c .before .can-write .ensures) ∙ c .if1 .taken))
-
-slice-relend-prefix-fill : tie.Need-slice-relend-prefix-fill
-slice-relend-prefix-fill c = search needs
 
 slice-aggregate-fill : tie.Need-slice-aggregate-fill
 slice-aggregate-fill c = sym (length-take-le _ (c .before .before .before .before .before .before .before .args .out .now) (c .before .if2 .taken))
@@ -27,9 +21,6 @@ fill-requires c κs =
       fitting _ _ (sym (b .before .can-write .ensures) ∙ b .if1 .taken),
       length-take-le _ (b .before .before .before .before .args .out .now) (c .before .if2 .taken) ∙ c .before .before .unit-length .ensures,
     )
-
-same-length : tie.Need-same-length
-same-length c = search needs
 
 returns : tie.Need-returns
 returns c =
@@ -56,12 +47,12 @@ pub write-spec : {M : Type 1} → statement M
 write-spec =
     tie.close
     (tie.spec
-    can-write-requires
+    (λ c κs. search needs)
     unit-length-requires
-    slice-relend-prefix-fill
+    (λ c. search needs)
     slice-aggregate-fill
     fill-requires
-    same-length
+    (λ c. search needs)
     returns
     returns-2
     returns-3)

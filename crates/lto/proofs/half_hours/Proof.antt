@@ -10,12 +10,6 @@ use borrow.Author.Needs.{needs}
 use Rattle.lto.proofs.half_hours.Statement.{statement}
 use Rattle.lto.proofs.half_hours.Tie as tie
 
-cast-result : tie.Need-cast-result
-cast-result c = search needs
-
-cast-result-2 : tie.Need-cast-result-2
-cast-result-2 c = search needs
-
 sub-result : tie.Need-sub-result
 sub-result c = minus-fits (c .before .args .field % 32) (omega arith)
 
@@ -32,4 +26,4 @@ returns-2 c =
     minus-of (c .before .args .field % 32) small ∙ sym (passed-over _ _ _ (le-ltb _ _ (c .if1 .left)))
 
 pub half-hours-spec : {M : Type 1} → statement M
-half-hours-spec = tie.close (tie.spec cast-result cast-result-2 sub-result returns returns-2)
+half-hours-spec = tie.close (tie.spec (search needs) (search needs) sub-result returns returns-2)

@@ -14,14 +14,8 @@ sub-west c = west-of (c .before .args .lto) (c .before .fits .lto) (c .if1 .take
 cast-west : tie.Need-cast-west
 cast-west c = west-of (c .before .args .lto) (c .before .fits .lto) (c .if1 .taken) .cast-fits
 
-west-requires : tie.Need-west-requires
-west-requires c κs = search needs
-
 cast-east : tie.Need-cast-east
 cast-east c = east-of (c .before .args .lto) (c .before .fits .lto) (c .if1 .left) .0
-
-east-requires : tie.Need-east-requires
-east-requires c κs = search needs
 
 returns : tie.Need-returns
 returns c =
@@ -36,4 +30,4 @@ returns-2 c =
 pub lto-field-spec : {M : Type 1} → statement M
 lto-field-spec =
     tie.close
-    (tie.spec add-west sub-west cast-west west-requires cast-east east-requires returns returns-2)
+    (tie.spec add-west sub-west cast-west (search needs) cast-east (search needs) returns returns-2)

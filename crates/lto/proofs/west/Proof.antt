@@ -7,9 +7,6 @@ use borrow.Author.Needs.{needs}
 use Rattle.lto.proofs.west.Statement.{statement}
 use Rattle.lto.proofs.west.Tie as tie
 
-add-result : tie.Need-add-result
-add-result c = search needs
-
 returns : tie.Need-returns
 unfolding ltoField
 returns c = sym (chosen _ _ _ (lt-ltb _ _ (c .if1 .taken)))
@@ -19,4 +16,4 @@ unfolding ltoField
 returns-2 c = sym (passed-over _ _ _ (le-ltb _ _ (c .if1 .left)))
 
 pub west-spec : {M : Type 1} → statement M
-west-spec = tie.close (tie.spec add-result returns returns-2)
+west-spec = tie.close (tie.spec (search needs) returns returns-2)

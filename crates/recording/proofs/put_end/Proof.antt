@@ -10,15 +10,6 @@ use Rattle.session.proofs.Turns.{put-nothing}
 use Rattle.recording.proofs.put_end.Statement.{statement}
 use Rattle.recording.proofs.put_end.Tie as tie
 
-next-requires : tie.Need-next-requires
-next-requires c κs = search needs
-
-put-refusal-requires : tie.Need-put-refusal-requires
-put-refusal-requires c κs = search needs
-
-same-length : tie.Need-same-length
-same-length c = search needs
-
 returns : tie.Need-returns
 returns c =
     let a = c .before .before .before .before .before .before .before .args in
@@ -30,4 +21,4 @@ returns-2 c = (put-as (c .before .before .args .at) (c .before .before .args .ou
 
 pub put-end-spec : {M : Type 1} → statement M
 put-end-spec =
-    tie.close (tie.spec next-requires put-refusal-requires same-length returns returns-2)
+    tie.close (tie.spec (λ c κs. search needs) (λ c κs. search needs) (λ c. search needs) returns returns-2)

@@ -6,24 +6,6 @@ use Rattle.session.specs.Session.{counted}
 use Rattle.session.proofs.counted.Statement.{statement}
 use Rattle.session.proofs.counted.Tie as tie
 
-enum-told : tie.Need-enum-told
-enum-told c = search needs
-
-next-requires : tie.Need-next-requires
-next-requires c κs = search needs
-
-enum-told-2 : tie.Need-enum-told-2
-enum-told-2 c = search needs
-
-enum-told-3 : tie.Need-enum-told-3
-enum-told-3 c = search needs
-
-enum-told-4 : tie.Need-enum-told-4
-enum-told-4 c = search needs
-
-enum-told-5 : tie.Need-enum-told-5
-enum-told-5 c = search needs
-
 returns : tie.Need-returns
 unfolding counted
 returns c = c .next .ensures ∙ sym (ap (λ (x : Answer). counted x (c .before .before .before .args .reports)) (c .before .enum-told .given .1))
@@ -48,12 +30,12 @@ pub counted-spec : {M : Type 1} → statement M
 counted-spec =
     tie.close
     (tie.spec
-    enum-told
-    next-requires
-    enum-told-2
-    enum-told-3
-    enum-told-4
-    enum-told-5
+    (λ c. search needs)
+    (λ c κs. search needs)
+    (λ c. search needs)
+    (λ c. search needs)
+    (λ c. search needs)
+    (λ c. search needs)
     returns
     returns-2
     returns-3

@@ -9,67 +9,40 @@ use Rattle.session.proofs.Turns.{put-nothing}
 use Rattle.session.proofs.put_answer.Statement.{statement}
 use Rattle.session.proofs.put_answer.Tie as tie
 
-enum-told : tie.Need-enum-told
-enum-told c = search needs
-
-put-report-requires : tie.Need-put-report-requires
-put-report-requires c κs = search needs
-
-enum-known-answer : tie.Need-enum-known-answer
-enum-known-answer c = search needs
-
-put-refusal-requires : tie.Need-put-refusal-requires
-put-refusal-requires c κs = search needs
-
-enum-told-2 : tie.Need-enum-told-2
-enum-told-2 c = search needs
-
-enum-told-3 : tie.Need-enum-told-3
-enum-told-3 c = search needs
-
-enum-told-4 : tie.Need-enum-told-4
-enum-told-4 c = search needs
-
-same-length : tie.Need-same-length
-same-length c = search needs
-
 returns : tie.Need-returns
 unfolding answerText
-returns c = (put-as (c .before .before .before .before .before .before .before .args .at) (c .before .before .before .before .before .before .before .args .out .now) _ _ (sym (ap (λ (x : Answer). answerText x (c .before .before .before .before .before .before .before .args .report) (c .before .before .before .before .before .before .before .args .number) (c .before .before .before .before .before .before .before .args .place)) (c .before .before .before .before .enum-told .given .1))) (c .before .before .put-report .ensures .0), c .before .before .put-report .ensures .1)
-
-same-length-2 : tie.Need-same-length-2
-same-length-2 c = search needs
+returns c = (put-as (c .before .before .before .before .before .before .before .args .at) (c .before .before .before .before .before .before .before .args .out .now) _ _ (sym (ap (λ (x : Answer). answerText x (c .before .before .before .before .before .before .before .args .report) (c .before .before .before .before .before .before .before .args .number) (c .before .before .before .before .before .before .before .args .frame)) (c .before .before .before .before .enum-told .given .1))) (c .before .before .put-report .ensures .0), c .before .before .put-report .ensures .1)
 
 returns-2 : tie.Need-returns-2
 unfolding answerText
-returns-2 c = (put-as (c .before .before .before .before .before .before .before .before .args .at) (c .before .before .before .before .before .before .before .before .args .out .now) _ _ (sym (ap (λ (x : Answer). answerText x (c .before .before .before .before .before .before .before .before .args .report) (c .before .before .before .before .before .before .before .before .args .number) (c .before .before .before .before .before .before .before .before .args .place)) (c .before .before .before .before .before .answer .given .1))) (c .before .before .put-refusal .ensures .0), c .before .before .put-refusal .ensures .1)
+returns-2 c = (put-as (c .before .before .before .before .before .before .before .before .args .at) (c .before .before .before .before .before .before .before .before .args .out .now) _ _ (sym (ap (λ (x : Answer). answerText x (c .before .before .before .before .before .before .before .before .args .report) (c .before .before .before .before .before .before .before .before .args .number) (c .before .before .before .before .before .before .before .before .args .frame)) (c .before .before .before .before .before .answer .given .1))) (c .before .before .put-refusal .ensures .0), c .before .before .put-refusal .ensures .1)
 
 returns-3 : tie.Need-returns-3
 unfolding answerText
-returns-3 c = (put-as (c .before .before .before .args .at) (c .before .before .before .args .out .now) _ _ (sym (ap (λ (x : Answer). answerText x (c .before .before .before .args .report) (c .before .before .before .args .number) (c .before .before .before .args .place)) (c .enum-told2 .given .1))) (put-nothing (c .before .before .before .args .at) (c .before .before .before .args .out .now)), omega arith)
+returns-3 c = (put-as (c .before .before .before .args .at) (c .before .before .before .args .out .now) _ _ (sym (ap (λ (x : Answer). answerText x (c .before .before .before .args .report) (c .before .before .before .args .number) (c .before .before .before .args .frame)) (c .enum-told2 .given .1))) (put-nothing (c .before .before .before .args .at) (c .before .before .before .args .out .now)), omega arith)
 
 returns-4 : tie.Need-returns-4
 unfolding answerText
-returns-4 c = (put-as (c .before .before .before .args .at) (c .before .before .before .args .out .now) _ _ (sym (ap (λ (x : Answer). answerText x (c .before .before .before .args .report) (c .before .before .before .args .number) (c .before .before .before .args .place)) (c .enum-told3 .given .1))) (put-nothing (c .before .before .before .args .at) (c .before .before .before .args .out .now)), omega arith)
+returns-4 c = (put-as (c .before .before .before .args .at) (c .before .before .before .args .out .now) _ _ (sym (ap (λ (x : Answer). answerText x (c .before .before .before .args .report) (c .before .before .before .args .number) (c .before .before .before .args .frame)) (c .enum-told3 .given .1))) (put-nothing (c .before .before .before .args .at) (c .before .before .before .args .out .now)), omega arith)
 
 returns-5 : tie.Need-returns-5
 unfolding answerText
-returns-5 c = (put-as (c .before .before .before .args .at) (c .before .before .before .args .out .now) _ _ (sym (ap (λ (x : Answer). answerText x (c .before .before .before .args .report) (c .before .before .before .args .number) (c .before .before .before .args .place)) (c .enum-told4 .given .1))) (put-nothing (c .before .before .before .args .at) (c .before .before .before .args .out .now)), omega arith)
+returns-5 c = (put-as (c .before .before .before .args .at) (c .before .before .before .args .out .now) _ _ (sym (ap (λ (x : Answer). answerText x (c .before .before .before .args .report) (c .before .before .before .args .number) (c .before .before .before .args .frame)) (c .enum-told4 .given .1))) (put-nothing (c .before .before .before .args .at) (c .before .before .before .args .out .now)), omega arith)
 
 pub put-answer-spec : {M : Type 1} → statement M
 put-answer-spec =
     tie.close
     (tie.spec
-    enum-told
-    put-report-requires
-    enum-known-answer
-    put-refusal-requires
-    enum-told-2
-    enum-told-3
-    enum-told-4
-    same-length
+    (λ c. search needs)
+    (λ c κs. search needs)
+    (λ c. search needs)
+    (λ c κs. search needs)
+    (λ c. search needs)
+    (λ c. search needs)
+    (λ c. search needs)
+    (λ c. search needs)
     returns
-    same-length-2
+    (λ c. search needs)
     returns-2
     returns-3
     returns-4

@@ -9,12 +9,6 @@ use borrow.Author.Needs.{needs}
 use Rattle.drm.proofs.read.aid_of.Statement.{statement}
 use Rattle.drm.proofs.read.aid_of.Tie as tie
 
-ua-flag-requires : tie.Need-ua-flag-requires
-ua-flag-requires c κs = search needs
-
-bits-at-requires : tie.Need-bits-at-requires
-bits-at-requires c κs = search needs
-
 returns : tie.Need-returns
 unfolding aid
 returns c = sym (chosen _ _ _ (ap (λ (n : ℕ). eqb n 0) (sym (c .before .ua-flag .ensures)) ∙ eq-eqb _ _ (c .if1 .taken)))
@@ -24,4 +18,4 @@ unfolding aid
 returns-2 c = c .bits-at .ensures ∙ sym (passed-over _ _ _ (ap (λ (n : ℕ). eqb n 0) (sym (c .before .before .ua-flag .ensures)) ∙ ne-eqb _ _ (c .before .if1 .left)))
 
 pub aid-of-spec : {M : Type 1} → statement M
-aid-of-spec = tie.close (tie.spec ua-flag-requires bits-at-requires returns returns-2)
+aid-of-spec = tie.close (tie.spec (search needs) (search needs) returns returns-2)

@@ -10,22 +10,10 @@ use borrow.Author.Needs.{needs}
 use Rattle.drm.proofs.read.first_word.Statement.{statement}
 use Rattle.drm.proofs.read.first_word.Tie as tie
 
-bits-at-requires : tie.Need-bits-at-requires
-bits-at-requires c κs = search needs
-
-header-at-requires : tie.Need-header-at-requires
-header-at-requires c κs = search needs
-
 add-result : tie.Need-add-result
 add-result c =
     let b = c .before .before .before .before in
     omega (arith, c .header-at .ensures, flag-small (flat 8 (b .args .p .now)) (bits-in (b .args .p .now) (b .pre)))
-
-header-of-requires : tie.Need-header-of-requires
-header-of-requires c κs = search needs
-
-mul-result : tie.Need-mul-result
-mul-result c = search needs
 
 add-result-2 : tie.Need-add-result-2
 add-result-2 c =
@@ -54,11 +42,11 @@ pub first-word-spec : {M : Type 1} → statement M
 first-word-spec =
     tie.close
     (tie.spec
-    bits-at-requires
-    header-at-requires
+    (search needs)
+    (search needs)
     add-result
-    header-of-requires
-    mul-result
+    (search needs)
+    (search needs)
     add-result-2
     returns
     returns-2)

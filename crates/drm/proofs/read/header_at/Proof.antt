@@ -6,9 +6,6 @@ use borrow.Author.Needs.{needs}
 use Rattle.drm.proofs.read.header_at.Statement.{statement}
 use Rattle.drm.proofs.read.header_at.Tie as tie
 
-ua-flag-requires : tie.Need-ua-flag-requires
-ua-flag-requires c κs = search needs
-
 mul-result : tie.Need-mul-result
 mul-result c =
     let b = c .before .before in
@@ -19,8 +16,5 @@ add-result c =
     let b = c .before .before in
     omega (arith, c .ua-flag .ensures, flag-small (flat 8 (b .args .p .now)) (bits-in (b .args .p .now) (b .pre)))
 
-returns : tie.Need-returns
-returns c = search needs
-
 pub header-at-spec : {M : Type 1} → statement M
-header-at-spec = tie.close (tie.spec ua-flag-requires mul-result add-result returns)
+header-at-spec = tie.close (tie.spec (search needs) mul-result add-result (search needs))

@@ -14,12 +14,6 @@ use borrow.Author.Needs.{needs}
 use Rattle.drm.proofs.read.header_of.Statement.{statement}
 use Rattle.drm.proofs.read.header_of.Tie as tie
 
-bits-at-requires : tie.Need-bits-at-requires
-bits-at-requires c κs = search needs
-
-header-at-requires : tie.Need-header-at-requires
-header-at-requires c κs = search needs
-
 bits-at-requires-2 : tie.Need-bits-at-requires-2
 bits-at-requires-2 c κs =
     let b = c .before .before .before .before in
@@ -45,4 +39,4 @@ returns-2 c =
 
 pub header-of-spec : {M : Type 1} → statement M
 header-of-spec =
-    tie.close (tie.spec bits-at-requires header-at-requires bits-at-requires-2 returns returns-2)
+    tie.close (tie.spec (search needs) (search needs) bits-at-requires-2 returns returns-2)

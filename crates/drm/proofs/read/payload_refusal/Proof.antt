@@ -9,24 +9,6 @@ use borrow.Author.Needs.{needs}
 use Rattle.drm.proofs.read.payload_refusal.Statement.{statement}
 use Rattle.drm.proofs.read.payload_refusal.Tie as tie
 
-bits-at-requires : tie.Need-bits-at-requires
-bits-at-requires c κs = search needs
-
-aid-of-requires : tie.Need-aid-of-requires
-aid-of-requires c κs = search needs
-
-header-of-requires : tie.Need-header-of-requires
-header-of-requires c κs = search needs
-
-field-refusal-requires : tie.Need-field-refusal-requires
-field-refusal-requires c κs = search needs
-
-first-word-requires : tie.Need-first-word-requires
-first-word-requires c κs = search needs
-
-words-refusal-requires : tie.Need-words-refusal-requires
-words-refusal-requires c κs = search needs
-
 returns : tie.Need-returns
 unfolding payloadRefusal
 returns c =
@@ -51,11 +33,11 @@ pub payload-refusal-spec : {M : Type 1} → statement M
 payload-refusal-spec =
     tie.close
     (tie.spec
-    bits-at-requires
-    aid-of-requires
-    header-of-requires
-    field-refusal-requires
-    first-word-requires
-    words-refusal-requires
+    (search needs)
+    (search needs)
+    (search needs)
+    (search needs)
+    (search needs)
+    (search needs)
     returns
     returns-2)

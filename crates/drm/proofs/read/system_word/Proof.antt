@@ -10,12 +10,6 @@ use borrow.Author.Needs.{needs}
 use Rattle.drm.proofs.read.system_word.Statement.{statement}
 use Rattle.drm.proofs.read.system_word.Tie as tie
 
-mul-bits-at : tie.Need-mul-bits-at
-mul-bits-at c = search needs
-
-add-bits-at : tie.Need-add-bits-at
-add-bits-at c = search needs
-
 bits-at-requires : tie.Need-bits-at-requires
 bits-at-requires c κs = omega (arith, c .before .before .pre .0 (c .if1 .taken), c .if1 .taken)
 
@@ -37,4 +31,4 @@ returns-2 c =
 
 pub system-word-spec : {M : Type 1} → statement M
 system-word-spec =
-    tie.close (tie.spec mul-bits-at add-bits-at bits-at-requires cast-result returns returns-2)
+    tie.close (tie.spec (search needs) (search needs) bits-at-requires cast-result returns returns-2)

@@ -1,5 +1,4 @@
 -- The words lie within the bytes, and there is room for them.
-use Prim.Native.Nat.{_-_}
 use native.Mathlib.Omega.{arith}
 use mathlib.Core.Path.{refl, sym}
 use lib.ListN.{length}
@@ -20,12 +19,6 @@ unit-in-requires c κs =
     let b = c .before .before in
     (b .pre .0, b .pre .1, lies (b .args .p .now) (length (b .args .out .now)) _ refl (b .pre .2) .inside)
 
-first-word-requires : tie.Need-first-word-requires
-first-word-requires c κs = search needs
-
-mul-count : tie.Need-mul-count
-mul-count c = search needs
-
 sub-count : tie.Need-sub-count
 sub-count c = laid c .in-bytes
 
@@ -40,9 +33,6 @@ words-at-requires c κs =
     let b = c .before .before .before .before .before in
     let n = length-take-le _ (b .args .out .now) (slice-relend-prefix-words-at (c .before)) in
     (omega arith, omega (arith, n, laid (c .before) .in-bytes), omega (arith, b .pre .1))
-
-same-length : tie.Need-same-length
-same-length c = search needs
 
 returns : tie.Need-returns
 returns c =
@@ -59,11 +49,11 @@ take-payload-spec =
     tie.close
     (tie.spec
     unit-in-requires
-    first-word-requires
-    mul-count
+    (search needs)
+    (search needs)
     sub-count
     slice-relend-prefix-words-at
     slice-aggregate-words-at
     words-at-requires
-    same-length
+    (search needs)
     returns)

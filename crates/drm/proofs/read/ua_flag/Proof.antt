@@ -8,12 +8,6 @@ use borrow.Author.Needs.{needs}
 use Rattle.drm.proofs.read.ua_flag.Statement.{statement}
 use Rattle.drm.proofs.read.ua_flag.Tie as tie
 
-bits-at-requires : tie.Need-bits-at-requires
-bits-at-requires c κs = search needs
-
-bits-at-requires-2 : tie.Need-bits-at-requires-2
-bits-at-requires-2 c κs = search needs
-
 returns : tie.Need-returns
 unfolding uaFlag
 returns c =
@@ -30,4 +24,4 @@ returns-2 c =
     c .bits-at2 .ensures ∙ sym (passed-over _ _ _ (a-header (flat 8 p) (bits-in p (b .pre)) (call .result) (call .ensures) (c .before .if1 .left)))
 
 pub ua-flag-spec : {M : Type 1} → statement M
-ua-flag-spec = tie.close (tie.spec bits-at-requires bits-at-requires-2 returns returns-2)
+ua-flag-spec = tie.close (tie.spec (search needs) (search needs) returns returns-2)

@@ -1,5 +1,4 @@
--- The fields by their numbers, and each system word by its place.
-use Prim.Native.Nat.{_<_}
+-- The fields by their numbers, and each system word by its number.
 use native.Mathlib.Omega.{arith}
 use mathlib.Core.Path.{_∙_}
 use lib.Dec.{lit<}
@@ -10,19 +9,10 @@ use borrow.Author.Needs.{needs}
 use Rattle.drm.proofs.read.unit_in.Statement.{statement}
 use Rattle.drm.proofs.read.unit_in.Tie as tie
 
-header-of-requires : tie.Need-header-of-requires
-header-of-requires c κs = search needs
-
-header-at-requires : tie.Need-header-at-requires
-header-at-requires c κs = search needs
-
 add-at : tie.Need-add-at
 add-at c =
     let b = c .before .before .before in
     omega (arith, c .header-at .ensures, flag-small (flat 8 (b .args .p .now)) (bits-in (b .args .p .now) (b .pre .0)))
-
-bits-at-requires : tie.Need-bits-at-requires
-bits-at-requires c κs = search needs
 
 system-word-requires : tie.Need-system-word-requires
 system-word-requires c κs =
@@ -39,9 +29,6 @@ system-word-requires-3 c κs =
     let b = c .before .before .before .before .before .before in
     system-fits (b .args .p .now) (b .pre .0) (b .pre .2) _ _ (c .before .before .before .header-at .ensures) (c .before .before .before .before .header-of .ensures) _ (lit< tt)
 
-unit-of-requires : tie.Need-unit-of-requires
-unit-of-requires c κs = search needs
-
 returns : tie.Need-returns
 returns c =
     let b = c .before .before .before .before in
@@ -55,12 +42,12 @@ pub unit-in-spec : {M : Type 1} → statement M
 unit-in-spec =
     tie.close
     (tie.spec
-    header-of-requires
-    header-at-requires
+    (search needs)
+    (search needs)
     add-at
-    bits-at-requires
+    (search needs)
     system-word-requires
     system-word-requires-2
     system-word-requires-3
-    unit-of-requires
+    (search needs)
     returns)

@@ -11,30 +11,6 @@ use borrow.Author.Needs.{needs}
 use Rattle.drm.proofs.read.unit_of.Statement.{statement}
 use Rattle.drm.proofs.read.unit_of.Tie as tie
 
-cast-t8 : tie.Need-cast-t8
-cast-t8 c = search needs
-
-cast-t10 : tie.Need-cast-t10
-cast-t10 c = search needs
-
-cast-t13 : tie.Need-cast-t13
-cast-t13 c = search needs
-
-cast-t16 : tie.Need-cast-t16
-cast-t16 c = search needs
-
-cast-t19 : tie.Need-cast-t19
-cast-t19 c = search needs
-
-cast-half-hours : tie.Need-cast-half-hours
-cast-half-hours c = search needs
-
-half-hours-requires : tie.Need-half-hours-requires
-half-hours-requires c κs = search needs
-
-cast-t25 : tie.Need-cast-t25
-cast-t25 c = search needs
-
 returns : tie.Need-returns
 unfolding unitOf
 returns c =
@@ -46,12 +22,12 @@ pub unit-of-spec : {M : Type 1} → statement M
 unit-of-spec =
     tie.close
     (tie.spec
-    cast-t8
-    cast-t10
-    cast-t13
-    cast-t16
-    cast-t19
-    cast-half-hours
-    half-hours-requires
-    cast-t25
+    (search needs)
+    (search needs)
+    (search needs)
+    (search needs)
+    (search needs)
+    (search needs)
+    (search needs)
+    (search needs)
     returns)

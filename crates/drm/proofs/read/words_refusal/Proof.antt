@@ -7,9 +7,6 @@ use borrow.Author.Needs.{needs}
 use Rattle.drm.proofs.read.words_refusal.Statement.{statement}
 use Rattle.drm.proofs.read.words_refusal.Tie as tie
 
-mul-total : tie.Need-mul-total
-mul-total c = search needs
-
 returns : tie.Need-returns
 returns c =
     let a = c .before .before .args in
@@ -19,12 +16,6 @@ returns-2 : tie.Need-returns-2
 returns-2 c =
     let a = c .before .before .before .args in
     sym (checks (a .at) (a .p .now) (a .room) ∙ chosen _ _ _ (le-leb _ _ (c .before .if1 .left)) ∙ passed-over _ _ _ (lt-leb _ _ (c .if2 .taken)))
-
-sub-zeros-at : tie.Need-sub-zeros-at
-sub-zeros-at c = search needs
-
-zeros-at-requires : tie.Need-zeros-at-requires
-zeros-at-requires c κs = search needs
 
 returns-3 : tie.Need-returns-3
 returns-3 c =
@@ -51,11 +42,11 @@ pub words-refusal-spec : {M : Type 1} → statement M
 words-refusal-spec =
     tie.close
     (tie.spec
-    mul-total
+    (search needs)
     returns
     returns-2
-    sub-zeros-at
-    zeros-at-requires
+    (search needs)
+    (search needs)
     returns-3
     returns-4
     returns-5)

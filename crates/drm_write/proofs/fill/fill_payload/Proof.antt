@@ -11,28 +11,13 @@ use borrow.Author.Needs.{needs}
 use Rattle.drm_write.proofs.fill.fill_payload.Statement.{statement}
 use Rattle.drm_write.proofs.fill.fill_payload.Tie as tie
 
-cast-system : tie.Need-cast-system
-cast-system c = search needs
-
-mul-system : tie.Need-mul-system
-mul-system c = search needs
-
-system-number-requires : tie.Need-system-number-requires
-system-number-requires c κs = search needs
-
 sub-pow2 : tie.Need-sub-pow2
 sub-pow2 c =
     let b = c .before .before .before .before in
     omega (arith, ranges (b .args .unit) _ (b .pre .0) .system)
 
-pow2-requires : tie.Need-pow2-requires
-pow2-requires c κs = search needs
-
 div-messages : tie.Need-div-messages
 div-messages c = subst (λ (n : ℕ). 0 < n) (sym (c .pow2 .ensures)) (pow-pos (48 - c .before .before .before .before .before .args .unit .system * 16))
-
-front-width-requires : tie.Need-front-width-requires
-front-width-requires c κs = search needs
 
 front-number-requires : tie.Need-front-number-requires
 front-number-requires c κs =
@@ -51,9 +36,6 @@ lay-requires c κs =
       omega (arith, b .pre .1, w),
     )
 
-same-length : tie.Need-same-length
-same-length c = search needs
-
 returns : tie.Need-returns
 returns c =
     let b = c .before .before .before .before .before .before .before .before .before .before .before in
@@ -71,14 +53,14 @@ pub fill-payload-spec : {M : Type 1} → statement M
 fill-payload-spec =
     tie.close
     (tie.spec
-    cast-system
-    mul-system
-    system-number-requires
+    (λ c. search needs)
+    (λ c. search needs)
+    (λ c κs. search needs)
     sub-pow2
-    pow2-requires
+    (λ c κs. search needs)
     div-messages
-    front-width-requires
+    (λ c κs. search needs)
     front-number-requires
     lay-requires
-    same-length
+    (λ c. search needs)
     returns)

@@ -11,56 +11,11 @@ use borrow.Author.Needs.{needs}
 use Rattle.drm_write.proofs.fill.front_number.Statement.{statement}
 use Rattle.drm_write.proofs.fill.front_number.Tie as tie
 
-cast-result : tie.Need-cast-result
-cast-result c = search needs
-
-cast-result-2 : tie.Need-cast-result-2
-cast-result-2 c = search needs
-
-mul-result : tie.Need-mul-result
-mul-result c = search needs
-
-add-result : tie.Need-add-result
-add-result c = search needs
-
-cast-result-3 : tie.Need-cast-result-3
-cast-result-3 c = search needs
-
-mul-result-2 : tie.Need-mul-result-2
-mul-result-2 c = search needs
-
-add-result-2 : tie.Need-add-result-2
-add-result-2 c = search needs
-
-cast-result-4 : tie.Need-cast-result-4
-cast-result-4 c = search needs
-
-mul-result-3 : tie.Need-mul-result-3
-mul-result-3 c = search needs
-
-add-result-3 : tie.Need-add-result-3
-add-result-3 c = search needs
-
-cast-result-5 : tie.Need-cast-result-5
-cast-result-5 c = search needs
-
-mul-result-4 : tie.Need-mul-result-4
-mul-result-4 c = search needs
-
-add-result-4 : tie.Need-add-result-4
-add-result-4 c = search needs
-
-lto-field-requires : tie.Need-lto-field-requires
-lto-field-requires c κs = search needs
-
 mul-result-5 : tie.Need-mul-result-5
 mul-result-5 c = let f : c .lto-field .result < 65 = small-field _ _ (c .lto-field .ensures) in omega arith
 
 add-result-5 : tie.Need-add-result-5
 add-result-5 c = let f : c .lto-field .result < 65 = small-field _ _ (c .lto-field .ensures) in omega arith
-
-cast-result-6 : tie.Need-cast-result-6
-cast-result-6 c = search needs
 
 add-result-6 : tie.Need-add-result-6
 add-result-6 c = let f : c .before .lto-field .result < 65 = small-field _ _ (c .before .lto-field .ensures) in omega arith
@@ -82,23 +37,23 @@ pub front-number-spec : {M : Type 1} → statement M
 front-number-spec =
     tie.close
     (tie.spec
-    cast-result
-    cast-result-2
-    mul-result
-    add-result
-    cast-result-3
-    mul-result-2
-    add-result-2
-    cast-result-4
-    mul-result-3
-    add-result-3
-    cast-result-5
-    mul-result-4
-    add-result-4
-    lto-field-requires
+    (λ c. search needs)
+    (λ c. search needs)
+    (λ c. search needs)
+    (λ c. search needs)
+    (λ c. search needs)
+    (λ c. search needs)
+    (λ c. search needs)
+    (λ c. search needs)
+    (λ c. search needs)
+    (λ c. search needs)
+    (λ c. search needs)
+    (λ c. search needs)
+    (λ c. search needs)
+    (λ c κs. search needs)
     mul-result-5
     add-result-5
-    cast-result-6
+    (λ c. search needs)
     add-result-6
     returns
     returns-2)

@@ -15,36 +15,6 @@ use borrow.Author.Needs.{needs}
 use Rattle.drm_write.proofs.fill.lay.Statement.{statement}
 use Rattle.drm_write.proofs.fill.lay.Tie as tie
 
-put-bits-requires : tie.Need-put-bits-requires
-put-bits-requires c κs = search needs
-
-put-bits-requires-2 : tie.Need-put-bits-requires-2
-put-bits-requires-2 c κs = search needs
-
-add-at : tie.Need-add-at
-add-at c = search needs
-
-put-words-requires : tie.Need-put-words-requires
-put-words-requires c κs = search needs
-
-mul-used : tie.Need-mul-used
-mul-used c = search needs
-
-add-used : tie.Need-add-used
-add-used c = search needs
-
-mul-put-bits : tie.Need-mul-put-bits
-mul-put-bits c = search needs
-
-sub-put-bits : tie.Need-sub-put-bits
-sub-put-bits c = search needs
-
-put-bits-requires-3 : tie.Need-put-bits-requires-3
-put-bits-requires-3 c κs = search needs
-
-same-length : tie.Need-same-length
-same-length c = search needs
-
 returns : tie.Need-returns
 returns c =
     let fourth = c .before .before .put-bits3 in
@@ -77,14 +47,14 @@ pub lay-spec : {M : Type 1} → statement M
 lay-spec =
     tie.close
     (tie.spec
-    put-bits-requires
-    put-bits-requires-2
-    add-at
-    put-words-requires
-    mul-used
-    add-used
-    mul-put-bits
-    sub-put-bits
-    put-bits-requires-3
-    same-length
+    (λ c κs. search needs)
+    (λ c κs. search needs)
+    (λ c. search needs)
+    (λ c κs. search needs)
+    (λ c. search needs)
+    (λ c. search needs)
+    (λ c. search needs)
+    (λ c. search needs)
+    (λ c κs. search needs)
+    (λ c. search needs)
     returns)

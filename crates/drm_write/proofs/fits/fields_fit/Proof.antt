@@ -7,9 +7,6 @@ use borrow.Author.Needs.{needs}
 use Rattle.drm_write.proofs.fits.fields_fit.Statement.{statement}
 use Rattle.drm_write.proofs.fits.fields_fit.Tie as tie
 
-header-fits-requires : tie.Need-header-fits-requires
-header-fits-requires c κs = search needs
-
 returns : tie.Need-returns
 unfolding fieldsFit
 returns c =
@@ -17,4 +14,4 @@ returns c =
     ap (λ (b : Bool). ltb (u .tmchi) 2 && ltb (u .id) 16 && b) (c .header-fits .ensures)
 
 pub fields-fit-spec : {M : Type 1} → statement M
-fields-fit-spec = tie.close (tie.spec header-fits-requires returns)
+fields-fit-spec = tie.close (tie.spec (λ c κs. search needs) returns)

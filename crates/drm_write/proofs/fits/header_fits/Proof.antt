@@ -7,12 +7,6 @@ use borrow.Author.Needs.{needs}
 use Rattle.drm_write.proofs.fits.header_fits.Statement.{statement}
 use Rattle.drm_write.proofs.fits.header_fits.Tie as tie
 
-bare-fits-requires : tie.Need-bare-fits-requires
-bare-fits-requires c κs = search needs
-
-headed-fits-requires : tie.Need-headed-fits-requires
-headed-fits-requires c κs = search needs
-
 returns : tie.Need-returns
 unfolding headerFits
 returns c = c .bare-fits .ensures ∙ sym (chosen _ _ _ (eq-eqb _ _ (c .before .if1 .taken)))
@@ -22,4 +16,4 @@ unfolding headerFits
 returns-2 c = c .headed-fits .ensures ∙ sym (passed-over _ _ _ (ne-eqb _ _ (c .before .if1 .left)))
 
 pub header-fits-spec : {M : Type 1} → statement M
-header-fits-spec = tie.close (tie.spec bare-fits-requires headed-fits-requires returns returns-2)
+header-fits-spec = tie.close (tie.spec (λ c κs. search needs) (λ c κs. search needs) returns returns-2)

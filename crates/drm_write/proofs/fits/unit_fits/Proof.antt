@@ -11,9 +11,6 @@ use borrow.Author.Needs.{needs}
 use Rattle.drm_write.proofs.fits.unit_fits.Statement.{statement}
 use Rattle.drm_write.proofs.fits.unit_fits.Tie as tie
 
-fields-fit-requires : tie.Need-fields-fit-requires
-fields-fit-requires c κs = search needs
-
 unit-length-requires : tie.Need-unit-length-requires
 unit-length-requires c κs =
     let n = c .before .before .args .n in
@@ -35,4 +32,4 @@ returns-2 c =
     sym (ap (λ (t : Bool). t && leb (unitLength (a .unit) (a .n)) 128) (sym (fields .ensures)) ∙ too-many (a .unit) (a .n) (fields .result) (c .if1 .left))
 
 pub unit-fits-spec : {M : Type 1} → statement M
-unit-fits-spec = tie.close (tie.spec fields-fit-requires unit-length-requires returns returns-2)
+unit-fits-spec = tie.close (tie.spec (λ c κs. search needs) unit-length-requires returns returns-2)

@@ -15,9 +15,6 @@ use borrow.Author.Needs.{needs}
 use Rattle.fig.proofs.Fig.read.Statement.{statement}
 use Rattle.fig.proofs.Fig.read.Tie as tie
 
-head-refusal-requires : tie.Need-head-refusal-requires
-head-refusal-requires c κs = search needs
-
 fig-of-requires : tie.Need-fig-of-requires
 fig-of-requires c κs = length-fits (c .before .before .before .before .args .s .now) (sym (c .before .head-refusal .ensures) ∙ c .if1 .taken) .0
 
@@ -31,16 +28,10 @@ sub-read-data c = omega (arith, long c)
 part-read-data-start : tie.Need-part-read-data-start
 part-read-data-start c = omega (arith, long c)
 
-part-read-data-end : tie.Need-part-read-data-end
-part-read-data-end c = search needs
-
 read-data-requires : tie.Need-read-data-requires
 read-data-requires c κs =
     let s = c .before .before .before .before .before .before .before .args .s .now in
     omega (arith, ap length (data-part s), length-drop 2 s, long (c .before .before))
-
-same-length : tie.Need-same-length
-same-length c = search needs
 
 returns : tie.Need-returns
 unfolding readFig
@@ -67,12 +58,12 @@ pub read-spec : {M : Type 1} → statement M
 read-spec =
     tie.close
     (tie.spec
-    head-refusal-requires
+    (search needs)
     fig-of-requires
     sub-read-data
     part-read-data-start
-    part-read-data-end
+    (search needs)
     read-data-requires
-    same-length
+    (search needs)
     returns
     returns-2)

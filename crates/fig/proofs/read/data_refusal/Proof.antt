@@ -8,17 +8,8 @@ use borrow.Author.Needs.{needs}
 use Rattle.fig.proofs.read.data_refusal.Statement.{statement}
 use Rattle.fig.proofs.read.data_refusal.Tie as tie
 
-mul-words : tie.Need-mul-words
-mul-words c = search needs
-
-div-words : tie.Need-div-words
-div-words c = search needs
-
 mul-used : tie.Need-mul-used
 mul-used c = omega (arith, all-bits (c .before .args .w) (c .before .args .bytes .now))
-
-mul-left : tie.Need-mul-left
-mul-left c = search needs
 
 rem-left : tie.Need-rem-left
 rem-left c = omega (arith, all-bits (c .before .args .w) (c .before .args .bytes .now))
@@ -53,10 +44,10 @@ pub data-refusal-spec : {M : Type 1} → statement M
 data-refusal-spec =
     tie.close
     (tie.spec
-    mul-words
-    div-words
+    (search needs)
+    (search needs)
     mul-used
-    mul-left
+    (search needs)
     rem-left
     zeros-at-requires
     returns

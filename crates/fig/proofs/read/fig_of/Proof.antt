@@ -20,12 +20,6 @@ slice-aggregate-load c = sym (length-take-le 2 (c .before .before .args .s .now)
 load-requires : tie.Need-load-requires
 load-requires c κs = omega (arith, length-take-le 2 (c .before .before .args .s .now) (c .before .before .pre))
 
-cast-t8 : tie.Need-cast-t8
-cast-t8 c = search needs
-
-cast-t11 : tie.Need-cast-t11
-cast-t11 c = search needs
-
 returns : tie.Need-returns
 returns c =
     let s = c .before .before .before .args .s .now in
@@ -34,4 +28,4 @@ returns c =
     ∙ ap figOf (fields-of s (c .before .before .before .pre))
 
 pub fig-of-spec : {M : Type 1} → statement M
-fig-of-spec = tie.close (tie.spec slice-aggregate-load load-requires cast-t8 cast-t11 returns)
+fig-of-spec = tie.close (tie.spec slice-aggregate-load load-requires (search needs) (search needs) returns)

@@ -27,9 +27,6 @@ load-requires c κs =
 sub-field-refusal : tie.Need-sub-field-refusal
 sub-field-refusal c = omega (arith, in-range (length (c .before .before .before .before .args .s .now)) (c .before .before .if1 .taken))
 
-field-refusal-requires : tie.Need-field-refusal-requires
-field-refusal-requires c κs = search needs
-
 returns : tie.Need-returns
 unfolding headRefusal
 returns c =
@@ -46,4 +43,4 @@ returns-2 c = sym (passed-over _ _ _ (c .if1 .left))
 pub head-refusal-spec : {M : Type 1} → statement M
 head-refusal-spec =
     tie.close
-    (tie.spec slice-aggregate-load load-requires sub-field-refusal field-refusal-requires returns returns-2)
+    (tie.spec slice-aggregate-load load-requires sub-field-refusal (search needs) returns returns-2)

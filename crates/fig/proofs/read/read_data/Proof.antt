@@ -13,14 +13,8 @@ use borrow.Author.Needs.{needs}
 use Rattle.fig.proofs.read.read_data.Statement.{statement}
 use Rattle.fig.proofs.read.read_data.Tie as tie
 
-width-requires : tie.Need-width-requires
-width-requires c κs = search needs
-
 data-refusal-requires : tie.Need-data-refusal-requires
 data-refusal-requires c κs = omega (arith, c .width .ensures, width-bounds (c .before .before .before .args .fig .d1))
-
-mul-count : tie.Need-mul-count
-mul-count c = search needs
 
 div-count : tie.Need-div-count
 div-count c = omega (arith, c .before .before .width .ensures, width-bounds (c .before .before .before .before .before .args .fig .d1))
@@ -49,9 +43,6 @@ words-at-requires c κs =
       omega arith,
     )
 
-same-length : tie.Need-same-length
-same-length c = search needs
-
 returns : tie.Need-returns
 returns c =
     let b = c .before .before .before in
@@ -76,13 +67,13 @@ pub read-data-spec : {M : Type 1} → statement M
 read-data-spec =
     tie.close
     (tie.spec
-    width-requires
+    (search needs)
     data-refusal-requires
-    mul-count
+    (search needs)
     div-count
     slice-relend-prefix-words-at
     slice-aggregate-words-at
     words-at-requires
-    same-length
+    (search needs)
     returns
     returns-2)

@@ -14,21 +14,6 @@ returns c = frame-none _ (c .if1 .taken)
 returns-2 : tie.Need-returns-2
 returns-2 c = frame-one _ (c .before .if1 .left) (c .if2 .taken)
 
-shared-slice-read-little : tie.Need-shared-slice-read-little
-shared-slice-read-little c = search needs
-
-shared-slice-read-little-2 : tie.Need-shared-slice-read-little-2
-shared-slice-read-little-2 c = search needs
-
-little-requires : tie.Need-little-requires
-little-requires c κs = search needs
-
-sub-framed : tie.Need-sub-framed
-sub-framed c = search needs
-
-framed-requires : tie.Need-framed-requires
-framed-requires c κs = search needs
-
 returns-3 : tie.Need-returns-3
 returns-3 c = c .framed .ensures ∙ ap (λ (n : ℕ). framed n (length (c .before .before .before .before .before .before .before .args .s .now) - 2)) (c .before .little .ensures) ∙ frame-two (c .before .before .before .before .before .before .before .args .s .now) (c .before .before .before .before .if2 .left)
 
@@ -38,9 +23,9 @@ of-spec =
     (tie.spec
     returns
     returns-2
-    shared-slice-read-little
-    shared-slice-read-little-2
-    little-requires
-    sub-framed
-    framed-requires
+    (search needs)
+    (search needs)
+    (search needs)
+    (search needs)
+    (search needs)
     returns-3)

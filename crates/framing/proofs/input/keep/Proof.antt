@@ -14,9 +14,6 @@ Inv-loop s₀ from n i₀ s i = (i ≤ n) × (s ≡ moved from i s₀)
 abbrev μ-loop : tie.MeasureT-loop
 μ-loop s₀ from n i₀ s i = n - i
 
-sub-n : tie.Need-sub-n Inv-loop μ-loop
-sub-n c = omega arith
-
 loop-holds : tie.Need-loop-holds Inv-loop μ-loop
 loop-holds c = (omega arith, move-none (c .args .from) (c .args .s .now))
 
@@ -28,12 +25,6 @@ slice-read-s c = omega (arith, ap length (c .before .before .loop .inv .1) ∙ l
 
 slice-write-s : tie.Need-slice-write-s Inv-loop μ-loop
 slice-write-s c = omega (arith, ap length (c .before .before .loop .inv .1) ∙ length-moved (c .before .before .before .args .from) (c .before .before .loop .i) (c .before .before .before .args .s .now) (omega (arith, c .before .before .before .pre)), c .before .before .before .pre)
-
-add-i : tie.Need-add-i Inv-loop μ-loop
-add-i c = omega arith
-
-loop-less : tie.Need-loop-less Inv-loop μ-loop
-loop-less c = omega arith
 
 loop-again : tie.Need-loop-again Inv-loop μ-loop
 loop-again c =
@@ -59,13 +50,13 @@ keep-spec =
     (tie.spec
     Inv-loop
     μ-loop
-    sub-n
+    (λ c. omega arith)
     loop-holds
     add-s
     slice-read-s
     slice-write-s
-    add-i
-    loop-less
+    (λ c. omega arith)
+    (λ c. omega arith)
     loop-again
     same-length
     returns)

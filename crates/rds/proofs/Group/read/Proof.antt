@@ -1,10 +1,8 @@
 -- Each way out is the case that its tests say.
-use mathlib.Core.Path.{sym, ap, _∙_}
+use mathlib.Core.Path.{sym, _∙_}
 use native.Mathlib.Nat.{div-one}
 use borrow.Author.Tests.{ne-eqb}
 use Rattle.bits.proofs.Choice.{chosen, passed-over}
-use Rattle.bits.proofs.Formats.{parts}
-use Rattle.rds.specs.Format.{groupFormat}
 use Rattle.rds.specs.Read.{readGroup, groupBy}
 use Rattle.rds.proofs.Blocks.{read-parts}
 use borrow.Author.Needs.{needs}
@@ -14,18 +12,6 @@ use Rattle.rds.proofs.Group.read.Tie as tie
 returns : tie.Need-returns
 unfolding readGroup
 returns c = sym (passed-over _ _ _ (ne-eqb _ _ (c .if1 .taken)))
-
-load-requires : tie.Need-load-requires
-load-requires c κs = search needs
-
-cast-t14 : tie.Need-cast-t14
-cast-t14 c = search needs
-
-cast-t17 : tie.Need-cast-t17
-cast-t17 c = search needs
-
-cast-t20 : tie.Need-cast-t20
-cast-t20 c = search needs
 
 returns-2 : tie.Need-returns-2
 unfolding groupBy
@@ -43,4 +29,4 @@ returns-3 c =
 
 pub read-spec : {M : Type 1} → statement M
 read-spec =
-    tie.close (tie.spec returns load-requires cast-t14 cast-t17 cast-t20 returns-2 returns-3)
+    tie.close (tie.spec returns (search needs) (search needs) (search needs) (search needs) returns-2 returns-3)

@@ -2,7 +2,7 @@
 use Prim.Native.Nat.{ℕ, _*_}
 use mathlib.Core.Path.{sym, ap, _∙_}
 use mathlib.Core.List.{List, _++_}
-use lib.ListN.{length, take, drop}
+use lib.ListN.{drop}
 use lib.Seq.{length-take-le}
 use Rattle.bits.specs.Bits.{bits}
 use Rattle.bits.specs.Fields.{words}
@@ -11,23 +11,11 @@ use borrow.Author.Needs.{needs}
 use Rattle.rds.proofs.Group.write.Statement.{statement}
 use Rattle.rds.proofs.Group.write.Tie as tie
 
-group-fits-requires : tie.Need-group-fits-requires
-group-fits-requires c κs = search needs
-
-slice-relend-prefix-store : tie.Need-slice-relend-prefix-store
-slice-relend-prefix-store c = search needs
-
 slice-aggregate-store : tie.Need-slice-aggregate-store
 slice-aggregate-store c = sym (length-take-le 8 (c .before .before .before .before .before .args .out .now) (c .before .if2 .taken))
 
 group-number-requires : tie.Need-group-number-requires
 group-number-requires c κs = sym (c .before .before .before .group-fits .ensures) ∙ c .before .before .if1 .taken
-
-store-requires : tie.Need-store-requires
-store-requires c κs = search needs
-
-same-length : tie.Need-same-length
-same-length c = search needs
 
 returns : tie.Need-returns
 returns c =
@@ -58,12 +46,12 @@ pub write-spec : {M : Type 1} → statement M
 write-spec =
     tie.close
     (tie.spec
-    group-fits-requires
-    slice-relend-prefix-store
+    (search needs)
+    (search needs)
     slice-aggregate-store
     group-number-requires
-    store-requires
-    same-length
+    (search needs)
+    (search needs)
     returns
     returns-2
     returns-3)

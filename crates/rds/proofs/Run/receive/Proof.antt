@@ -1,41 +1,42 @@
--- What the reading of the group says.
+-- The run first, and then what the reading of the group says.
 use mathlib.Core.Path.{sym, ap, _∙_}
-use Rattle.rds.specs.Repeat.{received, afterReading}
+use Rattle.bits.proofs.Choice.{chosen, passed-over}
+use Rattle.rds.specs.Repeat.{afterReading, received}
+use borrow.Author.Tests.{not-true, not-false}
 use borrow.Author.Needs.{needs}
 use Rattle.rds.proofs.Run.receive.Statement.{statement}
 use Rattle.rds.proofs.Run.receive.Tie as tie
 
-read-requires : tie.Need-read-requires
-read-requires c κs = search needs
-
-enum-known-reading : tie.Need-enum-known-reading
-enum-known-reading c = search needs
-
-take-requires : tie.Need-take-requires
-take-requires c κs = search needs
-
-enum-known-reading-2 : tie.Need-enum-known-reading-2
-enum-known-reading-2 c = search needs
-
 returns : tie.Need-returns
-unfolding received afterReading
-returns c =
-    let before = c .before .before .before .before in
-    c .take .ensures ∙ sym (ap (afterReading (before .before .before .args .self)) (sym (before .read .ensures) ∙ c .before .before .reading .given .1))
+unfolding received
+returns c = sym (passed-over _ _ _ (sym (c .before .fits2 .ensures) ∙ not-true _ (c .if1 .taken)))
 
 returns-2 : tie.Need-returns-2
 unfolding received afterReading
 returns-2 c =
-    let before = c .before .before .before in
-    sym (ap (afterReading (before .before .before .args .self)) (sym (before .read .ensures) ∙ c .before .reading2 .given .1))
+    let b = c .before .before .before .before in
+    let a = b .before .before .before .before .args in
+    c .take .ensures
+    ∙ sym (chosen _ _ _ (sym (b .before .before .fits2 .ensures) ∙ not-false _ (b .before .if1 .left))
+    ∙ ap (afterReading (a .self)) (sym (b .read .ensures) ∙ c .before .before .reading .given .1))
+
+returns-3 : tie.Need-returns-3
+unfolding received afterReading
+returns-3 c =
+    let b = c .before .before .before in
+    let a = b .before .before .before .before .args in
+    sym (chosen _ _ _ (sym (b .before .before .fits2 .ensures) ∙ not-false _ (b .before .if1 .left))
+    ∙ ap (afterReading (a .self)) (sym (b .read .ensures) ∙ c .before .reading2 .given .1))
 
 pub receive-spec : {M : Type 1} → statement M
 receive-spec =
     tie.close
     (tie.spec
-    read-requires
-    enum-known-reading
-    take-requires
-    enum-known-reading-2
+    (search needs)
     returns
-    returns-2)
+    (search needs)
+    (search needs)
+    (search needs)
+    (search needs)
+    returns-2
+    returns-3)

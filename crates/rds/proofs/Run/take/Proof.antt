@@ -7,24 +7,6 @@ use borrow.Author.Needs.{needs}
 use Rattle.rds.proofs.Run.take.Statement.{statement}
 use Rattle.rds.proofs.Run.take.Tie as tie
 
-enum-told : tie.Need-enum-told
-enum-told c = search needs
-
-begun-requires : tie.Need-begun-requires
-begun-requires c κs = search needs
-
-enum-known-self : tie.Need-enum-known-self
-enum-known-self c = search needs
-
-begun-requires-2 : tie.Need-begun-requires-2
-begun-requires-2 c κs = search needs
-
-enum-known-self-2 : tie.Need-enum-known-self-2
-enum-known-self-2 c = search needs
-
-begun-requires-3 : tie.Need-begun-requires-3
-begun-requires-3 c κs = search needs
-
 returns : tie.Need-returns
 unfolding nextRun answerTo
 returns c = c .begun .ensures ∙ sym (ap (λ (r : Run). heard r (c .before .before .before .args .word)) (c .before .enum-told .given .1))
@@ -45,12 +27,12 @@ pub take-spec : {M : Type 1} → statement M
 take-spec =
     tie.close
     (tie.spec
-    enum-told
-    begun-requires
-    enum-known-self
-    begun-requires-2
-    enum-known-self-2
-    begun-requires-3
+    (search needs)
+    (search needs)
+    (search needs)
+    (search needs)
+    (search needs)
+    (search needs)
     returns
     returns-2
     returns-3

@@ -6,29 +6,8 @@ use borrow.Author.Needs.{needs}
 use Rattle.rds.proofs.format.group_number.Statement.{statement}
 use Rattle.rds.proofs.format.group_number.Tie as tie
 
-cast-high : tie.Need-cast-high
-cast-high c = search needs
-
-mul-high : tie.Need-mul-high
-mul-high c = search needs
-
-add-high : tie.Need-add-high
-add-high c = search needs
-
-cast-result : tie.Need-cast-result
-cast-result c = search needs
-
-mul-result : tie.Need-mul-result
-mul-result c = search needs
-
 add-result : tie.Need-add-result
 add-result c = omega (arith, joined-lt groupFormat (groupValues (c .before .before .args .g)) (c .before .before .pre))
-
-cast-result-2 : tie.Need-cast-result-2
-cast-result-2 c = search needs
-
-mul-result-2 : tie.Need-mul-result-2
-mul-result-2 c = search needs
 
 add-result-2 : tie.Need-add-result-2
 add-result-2 c = omega (arith, joined-lt groupFormat (groupValues (c .before .before .before .args .g)) (c .before .before .before .pre))
@@ -43,14 +22,14 @@ pub group-number-spec : {M : Type 1} → statement M
 group-number-spec =
     tie.close
     (tie.spec
-    cast-high
-    mul-high
-    add-high
-    cast-result
-    mul-result
+    (search needs)
+    (search needs)
+    (search needs)
+    (search needs)
+    (search needs)
     add-result
-    cast-result-2
-    mul-result-2
+    (search needs)
+    (search needs)
     add-result-2
     add-result-3
     returns)

@@ -8,18 +8,6 @@ use Rattle.session.specs.Session.{answerText, afterStep, stepText, after
 use Rattle.session.proofs.Session.word.Statement.{statement}
 use Rattle.session.proofs.Session.word.Tie as tie
 
-step-requires : tie.Need-step-requires
-step-requires c κs = search needs
-
-counted-requires : tie.Need-counted-requires
-counted-requires c κs = search needs
-
-put-answer-requires : tie.Need-put-answer-requires
-put-answer-requires c κs = search needs
-
-same-length : tie.Need-same-length
-same-length c = search needs
-
 returns : tie.Need-returns
 unfolding afterWord wordText
 returns c =
@@ -27,11 +15,11 @@ returns c =
     let step = c .before .before .before .before .before .before .step in
     let count = c .before .before .before .before .counted in
     let call = c .before .before .put-answer in (
-      ap (λ (n : ℕ). let s : Session = record { assembler = step .result .next; run = a .self .run; records = a .self .records; reports = n } in s) (count .ensures)
+      ap (λ (n : ℕ). let s : Session = record { assembler = step .result .next; run = a .self .run; frames = a .self .frames; reports = n } in s) (count .ensures)
           ∙ ap (afterStep (a .self)) (step .ensures),
       (
         put-as (a .at) (a .out .now) _ _
-            (ap (λ (n : ℕ). answerText (step .result .answer) (step .result .report) n (a .self .records)) (count .ensures) ∙ ap (stepText (a .self)) (step .ensures))
+            (ap (λ (n : ℕ). answerText (step .result .answer) (step .result .report) n (a .self .frames)) (count .ensures) ∙ ap (stepText (a .self)) (step .ensures))
             (call .ensures .0),
         call .ensures .1,
       ),
@@ -39,4 +27,4 @@ returns c =
 
 pub word-spec : {M : Type 1} → statement M
 word-spec =
-    tie.close (tie.spec step-requires counted-requires put-answer-requires same-length returns)
+    tie.close (tie.spec (λ c κs. search needs) (λ c κs. search needs) (λ c κs. search needs) (λ c. search needs) returns)

@@ -7,20 +7,8 @@ use borrow.Author.Needs.{needs}
 use Rattle.system.proofs.System.write.Statement.{statement}
 use Rattle.system.proofs.System.write.Tie as tie
 
-enum-known-self : tie.Need-enum-known-self
-enum-known-self c = search needs
-
-table-fits-requires : tie.Need-table-fits-requires
-table-fits-requires c κs = search needs
-
 table-word-requires : tie.Need-table-word-requires
 table-word-requires c κs = sym (c .before .table-fits .ensures) ∙ c .if1 .taken
-
-enum-known-self-2 : tie.Need-enum-known-self-2
-enum-known-self-2 c = search needs
-
-service-fits-requires : tie.Need-service-fits-requires
-service-fits-requires c κs = search needs
 
 service-word-requires : tie.Need-service-word-requires
 service-word-requires c κs = sym (c .before .service-fits .ensures) ∙ c .if2 .taken
@@ -53,11 +41,11 @@ pub write-spec : {M : Type 1} → statement M
 write-spec =
     tie.close
     (tie.spec
-    enum-known-self
-    table-fits-requires
+    (search needs)
+    (search needs)
     table-word-requires
-    enum-known-self-2
-    service-fits-requires
+    (search needs)
+    (search needs)
     service-word-requires
     returns
     returns-2

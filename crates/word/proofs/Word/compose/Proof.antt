@@ -7,53 +7,14 @@ use borrow.Author.Needs.{needs}
 use Rattle.word.proofs.Word.compose.Statement.{statement}
 use Rattle.word.proofs.Word.compose.Tie as tie
 
-enum-known-self : tie.Need-enum-known-self
-enum-known-self c = search needs
-
-single-fits-requires : tie.Need-single-fits-requires
-single-fits-requires c κs = search needs
-
 single-number-requires : tie.Need-single-number-requires
 single-number-requires c κs = sym (c .before .single-fits .ensures) ∙ c .if1 .taken
-
-enum-known-self-2 : tie.Need-enum-known-self-2
-enum-known-self-2 c = search needs
-
-first-fits-requires : tie.Need-first-fits-requires
-first-fits-requires c κs = search needs
 
 first-number-requires : tie.Need-first-number-requires
 first-number-requires c κs = and-right (isIndex _) _ (sym (c .before .first-fits .ensures) ∙ c .if2 .taken)
 
-enum-known-self-3 : tie.Need-enum-known-self-3
-enum-known-self-3 c = search needs
-
-later-fits-requires : tie.Need-later-fits-requires
-later-fits-requires c κs = search needs
-
 later-number-requires : tie.Need-later-number-requires
 later-number-requires c κs = and-right (isIndex _) _ (sym (c .before .later-fits .ensures) ∙ c .if3 .taken)
-
-enum-known-self-4 : tie.Need-enum-known-self-4
-enum-known-self-4 c = search needs
-
-whole-requires : tie.Need-whole-requires
-whole-requires c κs = search needs
-
-enum-known-self-5 : tie.Need-enum-known-self-5
-enum-known-self-5 c = search needs
-
-whole-requires-2 : tie.Need-whole-requires-2
-whole-requires-2 c κs = search needs
-
-enum-known-self-6 : tie.Need-enum-known-self-6
-enum-known-self-6 c = search needs
-
-whole-requires-3 : tie.Need-whole-requires-3
-whole-requires-3 c κs = search needs
-
-enum-told : tie.Need-enum-told
-enum-told c = search needs
 
 returns : tie.Need-returns
 unfolding composed
@@ -111,22 +72,22 @@ pub compose-spec : {M : Type 1} → statement M
 compose-spec =
     tie.close
     (tie.spec
-    enum-known-self
-    single-fits-requires
+    (search needs)
+    (search needs)
     single-number-requires
-    enum-known-self-2
-    first-fits-requires
+    (search needs)
+    (search needs)
     first-number-requires
-    enum-known-self-3
-    later-fits-requires
+    (search needs)
+    (search needs)
     later-number-requires
-    enum-known-self-4
-    whole-requires
-    enum-known-self-5
-    whole-requires-2
-    enum-known-self-6
-    whole-requires-3
-    enum-told
+    (search needs)
+    (search needs)
+    (search needs)
+    (search needs)
+    (search needs)
+    (search needs)
+    (search needs)
     returns
     returns-2
     returns-3

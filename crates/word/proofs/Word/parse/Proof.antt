@@ -14,21 +14,9 @@ returns-2 : tie.Need-returns-2
 unfolding kindOf kindBy
 returns-2 c = rw (headFields-parts, laterFields-parts) (simp (lt-leb _ _ (c .before .if1 .left), eq-eqb _ _ (c .if2 .taken)))
 
-cast-t7 : tie.Need-cast-t7
-cast-t7 c = search needs
-
-cast-t10 : tie.Need-cast-t10
-cast-t10 c = search needs
-
-head-requires : tie.Need-head-requires
-head-requires c κs = search needs
-
 returns-3 : tie.Need-returns-3
 unfolding kindOf kindBy
 returns-3 c = rw (c .head .ensures, headFields-parts, laterFields-parts) (simp (lt-leb _ _ (c .before .before .before .if1 .left), ne-eqb _ _ (c .before .before .if2 .left), eq-eqb _ _ (c .before .if3 .taken)))
-
-multi-requires : tie.Need-multi-requires
-multi-requires c κs = search needs
 
 returns-4 : tie.Need-returns-4
 unfolding kindOf kindBy
@@ -37,4 +25,4 @@ returns-4 c = rw (c .multi .ensures, headFields-parts, laterFields-parts) (simp 
 pub parse-spec : {M : Type 1} → statement M
 parse-spec =
     tie.close
-    (tie.spec returns returns-2 cast-t7 cast-t10 head-requires returns-3 multi-requires returns-4)
+    (tie.spec returns returns-2 (search needs) (search needs) (search needs) returns-3 (search needs) returns-4)

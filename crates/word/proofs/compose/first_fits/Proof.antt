@@ -1,5 +1,5 @@
 -- An index of 1 to 6 fits its three bits; the head has its own test.
-use mathlib.Core.Path.{_≡_, sym, ap₂, _∙_}
+use mathlib.Core.Path.{sym, ap₂, _∙_}
 use mathlib.Core.Bool.{Bool, _&&_}
 use Rattle.bits.specs.Fields.{fits}
 use Rattle.word.specs.Format.{headPart}
@@ -9,12 +9,6 @@ use borrow.Author.Needs.{needs}
 use Rattle.word.proofs.compose.first_fits.Statement.{statement}
 use Rattle.word.proofs.compose.first_fits.Tie as tie
 
-is-index-requires : tie.Need-is-index-requires
-is-index-requires c κs = search needs
-
-head-fits-requires : tie.Need-head-fits-requires
-head-fits-requires c κs = search needs
-
 returns : tie.Need-returns
 unfolding fits
 returns c =
@@ -22,4 +16,4 @@ returns c =
     ap₂ (λ (x y : Bool). x && y) (c .before .is-index .ensures) (c .head-fits .ensures) ∙ sym (index-fits (a .ci) (fits headPart (headValues (a .head))))
 
 pub first-fits-spec : {M : Type 1} → statement M
-first-fits-spec = tie.close (tie.spec is-index-requires head-fits-requires returns)
+first-fits-spec = tie.close (tie.spec (search needs) (search needs) returns)

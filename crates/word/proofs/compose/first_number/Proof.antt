@@ -5,12 +5,6 @@ use Rattle.word.proofs.Numbers.{head-fits, head-lt, head-number}
 use Rattle.word.proofs.compose.first_number.Statement.{statement}
 use Rattle.word.proofs.compose.first_number.Tie as tie
 
-mul-result : tie.Need-mul-result
-mul-result c = search needs
-
-add-result : tie.Need-add-result
-add-result c = search needs
-
 head-number-requires : tie.Need-head-number-requires
 head-number-requires c κs = head-fits 0 0 (c .args .ci) 1 (c .args .head) (c .pre)
 
@@ -26,4 +20,4 @@ returns c =
 
 pub first-number-spec : {M : Type 1} → statement M
 first-number-spec =
-    tie.close (tie.spec mul-result add-result head-number-requires add-result-2 returns)
+    tie.close (tie.spec (search needs) (search needs) head-number-requires add-result-2 returns)

@@ -2,7 +2,6 @@ use mathlib.Core.Bool.{and-assoc, and-true}
 use Prim.Native.Nat.{_<_}
 use borrow.Author.Needs.{needs}
 -- The location, a u16, is always in its range.
-use mathlib.Core.Path.{_≡_, refl, sym, ap, ap₂, _∙_}
 use Rattle.bits.specs.Fields.{fits}
 use borrow.Author.Tests.{lt-ltb}
 use Rattle.word.proofs.compose.head_fits.Statement.{statement}

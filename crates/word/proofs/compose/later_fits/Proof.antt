@@ -8,9 +8,6 @@ use borrow.Author.Needs.{needs}
 use Rattle.word.proofs.compose.later_fits.Statement.{statement}
 use Rattle.word.proofs.compose.later_fits.Tie as tie
 
-is-index-requires : tie.Need-is-index-requires
-is-index-requires c κs = search needs
-
 returns : tie.Need-returns
 unfolding fits
 returns c =
@@ -21,4 +18,4 @@ returns c =
     ap (λ (x : Bool). x && second && gsi && content) (c .is-index .ensures) ∙ later-tests (a .ci) second gsi content
 
 pub later-fits-spec : {M : Type 1} → statement M
-later-fits-spec = tie.close (tie.spec is-index-requires returns)
+later-fits-spec = tie.close (tie.spec (search needs) returns)

@@ -5,12 +5,9 @@ use borrow.Author.Needs.{needs}
 use Rattle.word.proofs.compose.single_fits.Statement.{statement}
 use Rattle.word.proofs.compose.single_fits.Tie as tie
 
-head-fits-requires : tie.Need-head-fits-requires
-head-fits-requires c κs = search needs
-
 returns : tie.Need-returns
 unfolding fits
 returns c = rw (c .head-fits .ensures) (simp and-assoc)
 
 pub single-fits-spec : {M : Type 1} → statement M
-single-fits-spec = tie.close (tie.spec head-fits-requires returns)
+single-fits-spec = tie.close (tie.spec (search needs) returns)

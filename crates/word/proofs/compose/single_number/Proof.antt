@@ -5,18 +5,6 @@ use Rattle.word.proofs.Numbers.{head-fits, head-lt, head-number}
 use Rattle.word.proofs.compose.single_number.Statement.{statement}
 use Rattle.word.proofs.compose.single_number.Tie as tie
 
-mul-result : tie.Need-mul-result
-mul-result c = search needs
-
-add-result : tie.Need-add-result
-add-result c = search needs
-
-mul-result-2 : tie.Need-mul-result-2
-mul-result-2 c = search needs
-
-add-result-2 : tie.Need-add-result-2
-add-result-2 c = search needs
-
 head-number-requires : tie.Need-head-number-requires
 head-number-requires c κs = head-fits 0 1 (c .args .duration) (c .args .diversion) (c .args .head) (c .pre)
 
@@ -34,10 +22,10 @@ pub single-number-spec : {M : Type 1} → statement M
 single-number-spec =
     tie.close
     (tie.spec
-    mul-result
-    add-result
-    mul-result-2
-    add-result-2
+    (search needs)
+    (search needs)
+    (search needs)
+    (search needs)
     head-number-requires
     add-result-3
     returns)

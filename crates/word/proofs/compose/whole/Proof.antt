@@ -4,9 +4,6 @@ use borrow.Author.Needs.{needs}
 use Rattle.word.proofs.compose.whole.Statement.{statement}
 use Rattle.word.proofs.compose.whole.Tie as tie
 
-div-if1 : tie.Need-div-if1
-div-if1 c = search needs
-
 returns : tie.Need-returns
 returns c = simp (eq-eqb _ _ (c .if1 .taken))
 
@@ -14,4 +11,4 @@ returns-2 : tie.Need-returns-2
 returns-2 c = simp (ne-eqb _ _ (c .if1 .left))
 
 pub whole-spec : {M : Type 1} → statement M
-whole-spec = tie.close (tie.spec div-if1 returns returns-2)
+whole-spec = tie.close (tie.spec (search needs) returns returns-2)

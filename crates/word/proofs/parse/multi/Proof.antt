@@ -1,14 +1,11 @@
 -- Each way out is the case that its tests say.
-use borrow.Author.Tests.{eq-eqb, ne-eqb, le-leb, lt-leb}
+use borrow.Author.Tests.{eq-eqb, ne-eqb}
 use native.Mathlib.Nat.{div-one}
 use Rattle.word.specs.Kind.{multiBy}
 use Rattle.word.proofs.Fields.{headFields-parts, laterFields-parts}
 use borrow.Author.Needs.{needs}
 use Rattle.word.proofs.parse.multi.Statement.{statement}
 use Rattle.word.proofs.parse.multi.Tie as tie
-
-cast-ci : tie.Need-cast-ci
-cast-ci c = search needs
 
 returns : tie.Need-returns
 unfolding multiBy
@@ -18,21 +15,9 @@ returns-2 : tie.Need-returns-2
 unfolding multiBy
 returns-2 c = rw (headFields-parts, laterFields-parts) (simp (ne-eqb _ _ (c .before .if1 .left), eq-eqb _ _ (c .if2 .taken)))
 
-head-requires : tie.Need-head-requires
-head-requires c κs = search needs
-
 returns-3 : tie.Need-returns-3
 unfolding multiBy
 returns-3 c = rw (c .head .ensures, headFields-parts, laterFields-parts) (simp (ne-eqb _ _ (c .before .before .before .if1 .left), ne-eqb _ _ (c .before .before .if2 .left), eq-eqb _ _ (c .before .if3 .taken)))
-
-cast-t7 : tie.Need-cast-t7
-cast-t7 c = search needs
-
-cast-t10 : tie.Need-cast-t10
-cast-t10 c = search needs
-
-cast-t12 : tie.Need-cast-t12
-cast-t12 c = search needs
 
 returns-4 : tie.Need-returns-4
 unfolding multiBy
@@ -42,12 +27,12 @@ pub multi-spec : {M : Type 1} → statement M
 multi-spec =
     tie.close
     (tie.spec
-    cast-ci
+    (search needs)
     returns
     returns-2
-    head-requires
+    (search needs)
     returns-3
-    cast-t7
-    cast-t10
-    cast-t12
+    (search needs)
+    (search needs)
+    (search needs)
     returns-4)
