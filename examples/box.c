@@ -1,106 +1,182 @@
 /*
- * A small box: hears a recording, keeps the message table, and prints what holds on the roads at a minute.
+ * A small box: hears a recording, keeps the message table, and prints what holds on the roads at a
+ * minute.
  *
  *     box HEARD ASKED < RECORDING
  *
- * The recording is in the house form: length (16 bits, little-endian, counting what follows it), kind (16 bits), body. Kind 1 is an RDS group, 2 a
- * FIG 5/1, 3 a DRM data unit. All of it is heard at minute HEARD, and the table is shown at minute ASKED; minutes are UTC and count from a midnight.
- * A refusal prints "! R N": record number from 1, refusal.
+ * The recording is in the house form: length (16 bits, low byte first, counting what follows it),
+ * kind (16 bits), body. Kind 1 is an RDS group, 2 a FIG 5/1, 3 a DRM data unit. All of it is heard
+ * at minute HEARD, and the table is shown at minute ASKED; minutes are UTC and count from a
+ * midnight. A refusal prints its frame, counted from 1, and its number and text.
  *
- * THE CATALOGUE AND THE LIVES BELOW ARE FOR DEMONSTRATION. They know five events and are not those of ISO 14819-2, nor of any service; so is
- * the service itself. A box loads its own.
+ * Each service that is followed has an assembler of its own: the RDS programme, each TCId of the
+ * DAB ensemble, each Short ID of the DRM multiplex. So a message of one is never joined to a tail
+ * of another. They are emptied on retuning, which a change of PI shows for RDS; a recording does
+ * not say when a DAB or DRM tuner moves.
  *
- * Build: rt staticlib capi && cc -std=c11 -Wall -Wextra -Wpedantic -Werror -Iinclude examples/box.c target/staticlib/libcapi.a -o box
+ * THE CATALOGUE AND THE LIVES BELOW ARE FOR DEMONSTRATION. They know five events and are not those
+ * of ISO 14819-2, nor of any service; so is the service that stands until system words name one.
+ *
+ * Build: rt staticlib capi
+ *        cc -std=c99 -Wall -Wextra -Iinclude examples/box.c target/staticlib/libcapi.a -o box
  */
+#include <stdbool.h>
 #include <stdio.h>
 #include <stdlib.h>
 
 #include "alertc.h"
 
-enum { RECORDS = 16, BODY = 128, WORDS = 27, COUNTRY = 1, LTN = 17, SID = 5 };
-
-/* An entry is the update class, the kind (1 ordinary, 2 cancelling, 3 null) and the duration type. */
-#define ENTRY(class, kind, type) ((class) + 64 * (kind) + 256 * (type))
+enum { RECORDS = 16, TCIDS = 8, SHORT_IDS = 16, LONGEST_BODY = ALERTC_DRM_UNIT_BYTES };
+enum kind { RDS_GROUP = 1, FIG = 2, DRM_UNIT = 3 };
+enum { ORDINARY = 1, CANCELLING = 2, NULL_MESSAGE = 3 };
 
 static const uint16_t catalogue[ALERTC_EVENTS] = {
-    [100] = ENTRY(1, 2, 0), [101] = ENTRY(1, 1, 0), [102] = ENTRY(1, 1, 0), [401] = ENTRY(5, 1, 1), [2047] = ENTRY(0, 3, 0),
+    [100] = ALERTC_CATALOGUE_ENTRY(1, CANCELLING, 0),
+    [101] = ALERTC_CATALOGUE_ENTRY(1, ORDINARY, 0),
+    [102] = ALERTC_CATALOGUE_ENTRY(1, ORDINARY, 0),
+    [401] = ALERTC_CATALOGUE_ENTRY(5, ORDINARY, 1),
+    [2047] = ALERTC_CATALOGUE_ENTRY(0, NULL_MESSAGE, 0),
 };
 
-/* Minutes by duration 0 to 7, first for duration type 0 and then for 1; 0 is until midnight. */
-static const uint16_t lives[ALERTC_LIVES] = {15, 15, 30, 60, 120, 180, 240, 0, 0, 0, 0, 0, 1440, 2880, 4320, 10080};
+/* Minutes by duration 0 to 7, for duration type 0 and then for 1; 0 is until midnight. */
+static const uint16_t lives[ALERTC_LIVES] = {
+    15, 15, 30, 60, 120, 180, 240, 0,
+    0, 0, 0, 0, 1440, 2880, 4320, 10080,
+};
 
-/* All that the box holds between two records. */
+/* What is kept of a service that is followed. */
+struct followed {
+    struct alertc_assembler assembler;
+    struct alertc_service service;
+    int8_t lto;
+};
+
+static const struct followed nothing_heard = {ALERTC_ASSEMBLER_INIT, {1, 17, 5}, 0};
+static const struct alertc_rds_run no_run = ALERTC_RDS_RUN_INIT;
+
+/* All that the box keeps between two frames. */
 struct box {
-    uint64_t run[ALERTC_RUN];
-    uint64_t assembler[ALERTC_ASSEMBLER];
+    struct alertc_rds_run run;
+    uint16_t pi; /* of the programme that is tuned to */
+    struct followed rds;
+    struct followed dab[TCIDS];
+    struct followed drm[SHORT_IDS];
     uint8_t table[RECORDS * ALERTC_RECORD_BYTES];
     uint32_t clock;
     uint32_t minute;
-    int8_t lto;
-    unsigned long record;
+    unsigned long frame;
 };
 
-static void refused(const struct box *b, uint8_t number) {
-    if (number != 0) {
-        printf("! %lu %u\n", b->record, (unsigned)number);
+static void retune_rds(struct box *box, uint16_t pi) {
+    box->pi = pi;
+    box->run = no_run;
+    box->rds = nothing_heard;
+}
+
+static void retune_dab(struct box *box) {
+    for (int i = 0; i < TCIDS; i++) {
+        box->dab[i] = nothing_heard;
     }
 }
 
-/* A valid word: a report that it completes goes into the table. */
-static void take_word(struct box *b, uint64_t word) {
-    uint64_t answer[ALERTC_ANSWER] = {0};
-    uint64_t taken[ALERTC_TAKE] = {0};
-    uint8_t number = alertc_assembler_step(b->assembler, ALERTC_ASSEMBLER, word, answer, ALERTC_ANSWER);
-    if (number == 0 && answer[0] == 1) {
-        number = alertc_table_take(b->table, sizeof b->table, catalogue, ALERTC_EVENTS, lives, ALERTC_LIVES, &b->clock, answer + 1, ALERTC_REPORT,
-                                   COUNTRY, LTN, SID, b->minute, b->lto, taken, ALERTC_TAKE);
+static void retune_drm(struct box *box) {
+    for (int i = 0; i < SHORT_IDS; i++) {
+        box->drm[i] = nothing_heard;
     }
-    refused(b, number);
 }
 
-static void take_words(struct box *b, const uint64_t *words, size_t count) {
+/* Says a refusal, and whether there was none. */
+static bool accepted(const struct box *box, uint8_t refusal) {
+    if (refusal != ALERTC_ACCEPTED) {
+        printf("! %lu %u %s\n", box->frame, (unsigned)refusal, alertc_refusal_text(refusal));
+    }
+    return refusal == ALERTC_ACCEPTED;
+}
+
+/* A valid word of a service: a report that it completes goes into the table. */
+static void take_word(struct box *box, struct followed *from, uint64_t word) {
+    struct alertc_assembler_answer answer = alertc_assembler_step(from->assembler, word);
+    from->assembler = answer.next;
+    if (accepted(box, answer.refusal) && answer.kind == ALERTC_ANSWER_REPORT) {
+        accepted(box, alertc_table_take(box->table, sizeof box->table, catalogue, ALERTC_EVENTS,
+                                        lives, ALERTC_LIVES, &box->clock, answer.report,
+                                        from->service, box->minute, from->lto)
+                          .refusal);
+    }
+}
+
+static void take_words(struct box *box, struct followed *from, const uint64_t *words,
+                       size_t count) {
     for (size_t i = 0; i < count; i++) {
-        take_word(b, words[i]);
+        take_word(box, from, words[i]);
     }
 }
 
-static void take_group(struct box *b, const uint8_t *body, size_t length) {
-    uint64_t answer[2] = {0};
-    uint8_t number = alertc_rds_receive(b->run, ALERTC_RUN, body, length, answer, 2);
-    refused(b, number);
-    if (number == 0 && answer[0] == 1) {
-        take_word(b, answer[1]);
+/* A system word says of which location table and service the messages are. */
+static void take_system_word(struct box *box, struct followed *from, uint16_t word) {
+    struct alertc_system_reading system = alertc_system_read(word);
+    if (!accepted(box, system.refusal)) {
+        return;
+    }
+    if (system.fields.variant == 0) {
+        from->service.ltn = system.fields.ltn;
+    } else {
+        from->service.sid = system.fields.sid;
     }
 }
 
-static void take_fig(struct box *b, const uint8_t *body, size_t length) {
-    uint64_t fig[ALERTC_FIG] = {0};
-    uint64_t words[WORDS] = {0};
-    size_t count = 0;
-    uint8_t number = alertc_fig_read(body, length, fig, ALERTC_FIG, words, WORDS, &count);
-    refused(b, number);
-    if (number == 0 && fig[0] == 0) {
-        take_words(b, words, count);
+static void take_group(struct box *box, const uint8_t *body, size_t length) {
+    struct alertc_rds_reading reading = alertc_rds_read(body, length);
+    if (!accepted(box, reading.refusal)) {
+        return;
+    }
+    if (reading.group.pi != box->pi) {
+        retune_rds(box, reading.group.pi);
+    }
+    struct alertc_rds_received received = alertc_rds_receive(box->run, body, length);
+    box->run = received.run;
+    if (received.valid) {
+        take_word(box, &box->rds, received.word);
     }
 }
 
-static void take_unit(struct box *b, const uint8_t *body, size_t length) {
-    uint64_t unit[ALERTC_DRM] = {0};
-    uint64_t words[WORDS] = {0};
-    size_t count = 0;
-    int8_t lto = 0;
-    uint8_t number = alertc_drm_read(body, length, unit, ALERTC_DRM, &lto, words, WORDS, &count);
-    refused(b, number);
-    if (number == 0) {
-        if (unit[0] == 1) {
-            b->lto = lto;
+static void take_fig(struct box *box, const uint8_t *body, size_t length) {
+    uint64_t words[ALERTC_FIG_SYSTEM_WORDS];
+    struct alertc_fig_reading reading =
+        alertc_fig_read(body, length, words, ALERTC_FIG_SYSTEM_WORDS);
+    if (!accepted(box, reading.refusal)) {
+        return;
+    }
+    struct followed *from = &box->dab[reading.fig.tcid];
+    if (reading.fig.d1 == 0) {
+        take_words(box, from, words, reading.count);
+        return;
+    }
+    for (size_t i = 0; i < reading.count; i++) {
+        take_system_word(box, from, (uint16_t)words[i]);
+    }
+}
+
+static void take_unit(struct box *box, const uint8_t *body, size_t length) {
+    uint64_t words[ALERTC_DRM_UNIT_WORDS];
+    struct alertc_drm_reading reading =
+        alertc_drm_read(body, length, words, ALERTC_DRM_UNIT_WORDS);
+    if (!accepted(box, reading.refusal)) {
+        return;
+    }
+    struct followed *from = &box->drm[reading.unit.short_id];
+    if (reading.unit.tmchi == 1) {
+        from->service.country = reading.unit.country;
+        from->lto = reading.unit.lto;
+        for (size_t i = 0; i < reading.unit.system_count; i++) {
+            take_system_word(box, from, reading.unit.system_words[i]);
         }
-        take_words(b, words, count);
     }
+    take_words(box, from, words, reading.count);
 }
 
-/* The next record: 1 where there is one, 0 at the end, -1 where it is malformed or cut. */
-static int next_record(unsigned *kind, uint8_t *body, size_t *length) {
+/* The next frame: 1 if there is one, 0 at the end, -1 if it is malformed or cut. */
+static int next_frame(unsigned *kind, uint8_t *body, size_t *length) {
     uint8_t head[4];
     size_t got = fread(head, 1, sizeof head, stdin);
     if (got == 0) {
@@ -110,7 +186,7 @@ static int next_record(unsigned *kind, uint8_t *body, size_t *length) {
         return -1;
     }
     size_t counted = head[0] + 256u * head[1];
-    if (counted < 2 || counted > 2 + BODY) {
+    if (counted < 2 || counted > 2 + LONGEST_BODY) {
         return -1;
     }
     *kind = head[2] + 256u * head[3];
@@ -118,55 +194,56 @@ static int next_record(unsigned *kind, uint8_t *body, size_t *length) {
     return fread(body, 1, *length, stdin) == *length ? 1 : -1;
 }
 
-static void hear(struct box *b) {
-    uint8_t body[BODY];
+static void hear(struct box *box) {
+    uint8_t body[LONGEST_BODY];
     size_t length = 0;
     unsigned kind = 0;
     int more;
-    while ((more = next_record(&kind, body, &length)) != 0) {
-        b->record++;
+    while ((more = next_frame(&kind, body, &length)) != 0) {
+        box->frame++;
         if (more < 0) {
-            refused(b, 1);
+            accepted(box, ALERTC_REFUSED_LENGTH);
             return;
         }
         switch (kind) {
-        case 1:
-            take_group(b, body, length);
+        case RDS_GROUP:
+            take_group(box, body, length);
             break;
-        case 2:
-            take_fig(b, body, length);
+        case FIG:
+            take_fig(box, body, length);
             break;
-        case 3:
-            take_unit(b, body, length);
+        case DRM_UNIT:
+            take_unit(box, body, length);
             break;
         default:
-            refused(b, 2);
+            accepted(box, ALERTC_REFUSED_TYPE);
             break;
         }
     }
 }
 
 /* What holds at a minute: the table after the records that expired are freed. */
-static int show(struct box *b, uint32_t minute) {
-    size_t expired = 0;
-    uint8_t number = alertc_table_expire(b->table, sizeof b->table, &b->clock, minute, &expired);
-    if (number != 0) {
-        fprintf(stderr, "minute refused: %u\n", (unsigned)number);
-        return 1;
+static int show(struct box *box, uint32_t minute) {
+    struct alertc_table_answer freed =
+        alertc_table_expire(box->table, sizeof box->table, &box->clock, minute);
+    if (freed.refusal != ALERTC_ACCEPTED) {
+        fprintf(stderr, "minute %lu: %s\n", (unsigned long)minute,
+                alertc_refusal_text(freed.refusal));
+        return EXIT_FAILURE;
     }
-    printf("minute %lu, expired %zu\n", (unsigned long)minute, expired);
-    puts("place location event dir extent div dur items until");
+    printf("minute %lu, expired %zu\n", (unsigned long)minute, freed.expired);
+    puts("place location event dir extent div dur items until country ltn sid");
     for (size_t i = 0; i < RECORDS; i++) {
-        uint64_t r[ALERTC_RECORD] = {0};
-        number = alertc_table_read(b->table, sizeof b->table, i, r, ALERTC_RECORD);
-        if (number == 0 && r[0] == 1) {
-            const uint64_t *report = r + 1;
-            printf("%zu %llu %llu %llu %llu %llu %llu %llu %llu\n", i, (unsigned long long)report[2], (unsigned long long)report[1],
-                   (unsigned long long)report[3], (unsigned long long)report[4], (unsigned long long)report[5], (unsigned long long)report[6],
-                   (unsigned long long)report[7], (unsigned long long)r[1 + ALERTC_REPORT + 3]);
+        struct alertc_table_reading record = alertc_table_read(box->table, sizeof box->table, i);
+        if (record.used) {
+            const struct alertc_report *r = &record.report;
+            printf("%zu %u %u %u %u %u %u %zu %lu %u %u %u\n", i, r->location, r->event,
+                   r->direction, r->extent, r->diversion, r->duration, r->item_count,
+                   (unsigned long)record.expiry, record.service.country, record.service.ltn,
+                   record.service.sid);
         }
     }
-    return 0;
+    return EXIT_SUCCESS;
 }
 
 int main(int argc, char **argv) {
@@ -175,6 +252,9 @@ int main(int argc, char **argv) {
         return 2;
     }
     static struct box box;
+    retune_rds(&box, 0);
+    retune_dab(&box);
+    retune_drm(&box);
     box.minute = (uint32_t)strtoul(argv[1], NULL, 10);
     hear(&box);
     return show(&box, (uint32_t)strtoul(argv[2], NULL, 10));

@@ -1,28 +1,36 @@
 /*
- * Soilsonnet: an ALERT-C reader. The proved library's calls for C.
+ * Soilsonnet: an ALERT-C reader (ISO 14819-1) for RDS, DAB and DRM; the proved library's calls.
  *
- * Every call takes numbers and arrays, each array as a pointer and its number of cells. It keeps nothing between two calls: a state is a small
- * array of numbers that the caller lends.
+ * Values go in and come back as structs, by value; only bytes, words, tables, catalogues and lives
+ * are lent, each as a pointer and how many there are. Nothing is allocated, and nothing is kept
+ * between two calls: what lasts (a run, an assembler, a table's bytes, its clock) is the caller's,
+ * goes in with a call and comes back with it.
  *
- * Every call but two returns 0 where it answers, and else the number of the refusal:
+ * Refusals. Every result has a field `refusal`, 0 where the call answers (ALERTC_ACCEPTED) and else
+ * one of enum alertc_refusal; alertc_rds_write returns it. A refusal leaves all lent memory as it
+ * was, and the other fields of the result are 0, but for two that a caller stores back in any case:
+ * the run of alertc_rds_receive and the next state of alertc_assembler_step.
  *
- *    1  wrong length                                9  report, field, word, state or place unfit
- *    2  other group, FIG, AID or variant           10  table, catalogue or lives malformed
- *    3  reserved bit, no system words or padding   11  event that the catalogue does not know
- *    4  check word                                 12  foreign location (0xFC00 or above)
- *    5  later group out of turn                    13  minute below the last one, or too large
- *    6  continuity index 7                         14  no room in the table
- *    7  content: an item that does not fit         15  array too small
- *    8  content: label 15
+ * What to keep for each service. One run and one assembler for each service that is followed, so
+ * that the groups of two services are never joined:
  *
- * A refusal leaves every lent array as it was, states included, with two exceptions that are said at the calls: the assembler is empty after
- * refusals 5, 7 and 8, and the repeat rule's run goes on.
+ *     RDS   one struct alertc_rds_run and one struct alertc_assembler for the programme tuned to
+ *     DAB   one struct alertc_assembler for each TCId of the ensemble (0 to 7)
+ *     DRM   one struct alertc_assembler for each Short ID of the multiplex (0 to 15)
  *
- * Arrays with a size named here (ALERTC_..) may have more cells: the later ones are not looked at and stay as they are. One with fewer cells is
- * refused (15) before all else; but a catalogue or lives of another length, fewer or more, are malformed (10). Answers are written from the first cell on; the cells after an answer stay as they are.
+ * Both are emptied (ALERTC_RDS_RUN_INIT, ALERTC_ASSEMBLER_INIT) at the start and on retuning. A
+ * table may serve several services: its records carry country, LTN and SID.
  *
- * The caller sees to this: each pointer is not null, is aligned, and points to as many cells as are named beside it; no array that is written
- * overlaps another. Nothing else is asked.
+ * Lent memory. Each pointer is not null, is aligned, and points to as many elements as are named
+ * beside it; nothing that is written overlaps anything else lent. Nothing more is asked: any value
+ * of any argument has its answer. Buffers are filled from the start, and what stands after the
+ * count that is answered stays as it was.
+ *
+ * Threads. Calls share nothing: any number may run at once, as long as no two are lent the same
+ * memory that one of them writes.
+ *
+ * The archive is for x86-64; the layouts below are checked when this header is compiled, as C99,
+ * C11, C++17 or later.
  */
 #ifndef ALERTC_H
 #define ALERTC_H
@@ -34,164 +42,555 @@
 extern "C" {
 #endif
 
+/* The version of this interface: the first number changes when a caller must change. */
+#define ALERTC_VERSION_MAJOR 2
+#define ALERTC_VERSION_MINOR 0
+#define ALERTC_VERSION_PATCH 0
+#define ALERTC_VERSION "2.0.0"
+
+/* ---- Refusals ---- */
+
+enum alertc_refusal {
+    ALERTC_ACCEPTED = 0,
+    ALERTC_REFUSED_LENGTH = 1,
+    ALERTC_REFUSED_TYPE = 2,
+    ALERTC_REFUSED_RESERVED = 3,
+    ALERTC_REFUSED_CRC = 4,
+    ALERTC_REFUSED_OUT_OF_TURN = 5,
+    ALERTC_REFUSED_INDEX_7 = 6,
+    ALERTC_REFUSED_CONTENT = 7,
+    ALERTC_REFUSED_LABEL_15 = 8,
+    ALERTC_REFUSED_UNFIT = 9,
+    ALERTC_REFUSED_MALFORMED = 10,
+    ALERTC_REFUSED_EVENT = 11,
+    ALERTC_REFUSED_LOCATION = 12,
+    ALERTC_REFUSED_MINUTE = 13,
+    ALERTC_REFUSED_NO_ROOM = 14,
+    ALERTC_REFUSED_BUFFER = 15
+};
+
+/* What a refusal says, in English. Another number is "no refusal of this library". */
+static inline const char *alertc_refusal_text(unsigned refusal) {
+    switch (refusal) {
+    case ALERTC_ACCEPTED:
+        return "accepted";
+    case ALERTC_REFUSED_LENGTH:
+        return "wrong length";
+    case ALERTC_REFUSED_TYPE:
+        return "other group, FIG, application or variant";
+    case ALERTC_REFUSED_RESERVED:
+        return "reserved bit set, no system words, or padding not zero";
+    case ALERTC_REFUSED_CRC:
+        return "check word wrong";
+    case ALERTC_REFUSED_OUT_OF_TURN:
+        return "later group out of turn";
+    case ALERTC_REFUSED_INDEX_7:
+        return "continuity index 7";
+    case ALERTC_REFUSED_CONTENT:
+        return "content: an item does not fit";
+    case ALERTC_REFUSED_LABEL_15:
+        return "content: label 15";
+    case ALERTC_REFUSED_UNFIT:
+        return "report, field, word, state or place unfit";
+    case ALERTC_REFUSED_MALFORMED:
+        return "table, catalogue or lives malformed";
+    case ALERTC_REFUSED_EVENT:
+        return "event unknown to the catalogue";
+    case ALERTC_REFUSED_LOCATION:
+        return "foreign location";
+    case ALERTC_REFUSED_MINUTE:
+        return "minute before the last one, or too large";
+    case ALERTC_REFUSED_NO_ROOM:
+        return "no room in the table";
+    case ALERTC_REFUSED_BUFFER:
+        return "lent buffer too small";
+    default:
+        return "no refusal of this library";
+    }
+}
+
 /* ---- 37-bit words ---- */
 
+/* Words are the numbers below this. */
+#define ALERTC_WORD_LIMIT (UINT64_C(1) << 37)
+
+/* The largest continuity index of a multi-group message; the smallest is 1. */
+#define ALERTC_LAST_CI 6
+
+enum alertc_word_kind {
+    ALERTC_WORD_SINGLE = 0,         /* a single-group message */
+    ALERTC_WORD_FIRST = 1,          /* the first group of a multi-group message */
+    ALERTC_WORD_LATER = 2,          /* a later group of one */
+    ALERTC_WORD_TUNING = 3,         /* tuning information */
+    ALERTC_WORD_ADMINISTRATION = 4, /* encryption administration */
+    ALERTC_WORD_INDEX_7 = 5         /* continuity index 7, which no message has */
+};
+
+/* The fields of a word; those that its kind does not have are 0. */
+struct alertc_word_fields {
+    uint64_t word;     /* tuning, administration, index 7: the word itself */
+    uint32_t content;  /* later: 28 bits of content */
+    uint8_t direction; /* single, first: 0 positive, 1 negative */
+    uint8_t extent;    /* single, first: 0 to 7 */
+    uint16_t event;    /* single, first: 0 to 2047 */
+    uint16_t location; /* single, first */
+    uint8_t duration;  /* single: 0 to 7 */
+    uint8_t diversion; /* single: 1 if a diversion is advised, else 0 */
+    uint8_t ci;        /* first, later: continuity index, 1 to 6 */
+    uint8_t second;    /* later: 1 in the second group of a message, else 0 */
+    uint8_t gsi;       /* later: groups still to come, 0 to 3 */
+    uint8_t kind;      /* enum alertc_word_kind */
+};
+
+struct alertc_word_parsed {
+    struct alertc_word_fields fields;
+    uint8_t refusal;
+};
+
+struct alertc_word_composed {
+    uint64_t word;
+    uint8_t refusal;
+};
+
+/* Takes a word apart. Refused: a number of 2^37 or more (9). */
+struct alertc_word_parsed alertc_word_parse(uint64_t word);
+
 /*
- * A word's cells: its kind and its fields, cells without a field 0.
- *
- *   kind 0  single group     duration, diversion, direction, extent, event, location
- *   kind 1  first group      continuity index, direction, extent, event, location
- *   kind 2  later group      continuity index, second-group mark, groups still to come, content (28 bits)
- *   kind 3  tuning           the word
- *   kind 4  administration   the word
- *   kind 5  index 7          the word
+ * The word of these fields. Refused: another kind, a field out of its range, or one that the kind
+ * does not have and that is not 0 (9).
  */
-#define ALERTC_WORD 7
-
-/* Takes a word apart into ALERTC_WORD cells. A number of 2^37 or more: 9. */
-uint8_t alertc_word_parse(uint64_t word, uint64_t *fields, size_t fields_len);
-
-/* The word of ALERTC_WORD cells. Another kind, a field out of its range, or a cell without a field that is not 0: 9. */
-uint8_t alertc_word_compose(const uint64_t *fields, size_t fields_len, uint64_t *word);
+struct alertc_word_composed alertc_word_compose(struct alertc_word_fields fields);
 
 /* ---- System words of 16 bits ---- */
 
+/* The fields of a system word; those that its variant does not have are 0. */
+struct alertc_system_fields {
+    uint8_t variant;       /* 0 or 1 */
+    uint8_t ltn;           /* variant 0: location table number, 0 to 63 */
+    uint8_t afi;           /* variant 0: alternative frequency indicator, 0 or 1 */
+    uint8_t mode;          /* variant 0: mode of transmission, 0 or 1 */
+    uint8_t international; /* variant 0: geographical scope, 0 or 1; so are the next three */
+    uint8_t national;
+    uint8_t regional;
+    uint8_t urban;
+    uint8_t gap; /* variant 1: gap between groups, 0 to 3 */
+    uint8_t sid; /* variant 1: service identifier, 0 to 63 */
+    uint8_t ta;  /* variant 1: activity time Ta, 0 to 3 */
+    uint8_t tw;  /* variant 1: window time Tw, 0 to 3 */
+    uint8_t td;  /* variant 1: delay time Td, 0 to 3 */
+};
+
+struct alertc_system_reading {
+    struct alertc_system_fields fields;
+    uint8_t refusal;
+};
+
+struct alertc_system_written {
+    uint16_t word;
+    uint8_t refusal;
+};
+
+/* Reads a system word. Refused: another variant (2). */
+struct alertc_system_reading alertc_system_read(uint16_t word);
+
 /*
- * A system word's cells: its variant and its fields, cells without a field 0.
- *
- *   variant 0   LTN, AFI, mode, international, national, regional, urban
- *   variant 1   gap, SID, Ta, Tw, Td
+ * The system word of these fields. Refused: another variant, a field out of its range, or one that
+ * the variant does not have and that is not 0 (9).
  */
-#define ALERTC_SYSTEM 8
-
-/* Reads a system word into ALERTC_SYSTEM cells. Another variant: 2. */
-uint8_t alertc_system_read(uint16_t word, uint64_t *fields, size_t fields_len);
-
-/* The system word of ALERTC_SYSTEM cells. Another variant, a field out of its range, or a cell without a field that is not 0: 9. */
-uint8_t alertc_system_write(const uint64_t *fields, size_t fields_len, uint16_t *word);
-
-/* ---- RDS ---- */
-
-/* A type 8A group's cells: PI, TP, PTY, the word. */
-#define ALERTC_GROUP 4
-
-/* The run's cells: 0 and 0 at the start; 1 and the word of a run of one; 2 and the word of a longer run. */
-#define ALERTC_RUN 2
-
-/* Reads a group of eight bytes into ALERTC_GROUP cells. Another length: 1; another type or version: 2. */
-uint8_t alertc_rds_read(const uint8_t *group, size_t group_len, uint64_t *fields, size_t fields_len);
-
-/* Writes a group, eight bytes. A field out of its range: 9; less room: 15. */
-uint8_t alertc_rds_write(uint16_t pi, uint8_t tp, uint8_t pty, uint64_t word, uint8_t *out, size_t out_len);
-
-/*
- * The repeat rule: takes a group into the run (ALERTC_RUN cells), and answers in two cells whether it gives a valid word (1, else 0) and that word
- * (else 0). A run that no calls give: 9. Another length: 1; another type or version: 2.
- */
-uint8_t alertc_rds_receive(uint64_t *run, size_t run_len, const uint8_t *group, size_t group_len, uint64_t *answer, size_t answer_len);
+struct alertc_system_written alertc_system_write(struct alertc_system_fields fields);
 
 /* ---- Reports ---- */
 
-/*
- * A report's cells: form (0 single-group, 1 multi-group), event, location, direction, extent, diversion, duration, number of items, then 28 places
- * of a label and a value each; unused places are 0.
- */
-#define ALERTC_REPORT 64
+/* The most items of a report, and the most groups (words) of a message. */
+#define ALERTC_ITEMS 28
+#define ALERTC_MESSAGE_WORDS 5
+
+enum alertc_form { ALERTC_SINGLE_GROUP = 0, ALERTC_MULTI_GROUP = 1 };
+
+/* An item of a multi-group message's content. */
+struct alertc_item {
+    uint16_t label; /* 0 to 14 */
+    uint16_t value; /* within the label's width */
+};
+
+/* What a message says. */
+struct alertc_report {
+    struct alertc_item items[ALERTC_ITEMS]; /* in order; the places after the count are 0 */
+    size_t item_count;
+    uint8_t direction; /* 0 positive, 1 negative */
+    uint8_t extent;    /* 0 to 7 */
+    uint16_t event;    /* 0 to 2047 */
+    uint16_t location; /* 0 to 65535 */
+    uint8_t diversion; /* 1 if a diversion is advised, else 0 */
+    uint8_t duration;  /* 0 to 7 */
+    uint8_t form;      /* enum alertc_form */
+};
+
+/* No items, single-group, all fields 0. */
+#define ALERTC_REPORT_INIT { { { 0, 0 } }, 0, 0, 0, 0, 0, 0, 0, 0 }
+
+/* What a writer wrote into the lent buffer. */
+struct alertc_written {
+    size_t count; /* words or bytes; 0 on a refusal */
+    uint8_t refusal;
+};
 
 /*
- * Writes the words of a report (ALERTC_REPORT cells) with a continuity index, 1 to 6 for a multi-group and 0 for a single-group report, and their
- * number. What cannot be written: 9; less room: 15.
+ * Writes the words of a report, at most ALERTC_MESSAGE_WORDS, with a continuity index: 1 to
+ * ALERTC_LAST_CI for a multi-group report, 0 for a single-group one. Refused: what no message says,
+ * or a wrong index (9), fewer words lent than needed (15).
  */
-uint8_t alertc_report_write(const uint64_t *report, size_t report_len, uint8_t ci, uint64_t *words, size_t words_len, size_t *count);
+struct alertc_written alertc_report_write(struct alertc_report report, uint8_t ci,
+                                          uint64_t *words, size_t words_len);
 
 /* ---- The assembler ---- */
 
 /*
- * The assembler's cells: all 0 where it is empty, as at the start. While a message is open: 1, continuity index, direction, extent, event, location,
- * groups still to come after the last later group (0 while there is none), number of later groups, and their contents (three cells, unused ones 0).
+ * The state of an assembler, one for each service followed: the message that is open, all 0 while
+ * none is. The caller keeps it and need not look into it.
  */
-#define ALERTC_ASSEMBLER 11
+struct alertc_assembler {
+    uint8_t ci; /* continuity index of the open message */
+    struct {
+        uint8_t direction;
+        uint8_t extent;
+        uint16_t event;
+        uint16_t location;
+    } first_group;
+    uint8_t gsi;          /* groups still to come after the last later group */
+    uint8_t later_groups; /* how many were taken */
+    uint32_t contents[3]; /* their contents, in order */
+};
 
-/* An answer's cells: 0 nothing yet; 1 and the report's cells; 2 and a tuning word; 3 and an administration word. */
-#define ALERTC_ANSWER (1 + ALERTC_REPORT)
+/* Empty, as at the start and after retuning. */
+#define ALERTC_ASSEMBLER_INIT { 0, { 0, 0, 0, 0 }, 0, 0, { 0, 0, 0 } }
+
+enum alertc_answer {
+    ALERTC_ANSWER_NOTHING = 0,       /* nothing yet */
+    ALERTC_ANSWER_REPORT = 1,        /* a report */
+    ALERTC_ANSWER_TUNING = 2,        /* a tuning word, handed on whole */
+    ALERTC_ANSWER_ADMINISTRATION = 3 /* an administration word, handed on whole */
+};
+
+struct alertc_assembler_answer {
+    struct alertc_report report;  /* ALERTC_ANSWER_REPORT: the report, else all 0 */
+    struct alertc_assembler next; /* the next state, to be kept, on a refusal too */
+    uint64_t word;                /* ALERTC_ANSWER_TUNING, .._ADMINISTRATION: the word, else 0 */
+    uint8_t kind;                 /* enum alertc_answer; 0 on a refusal */
+    uint8_t refusal;
+};
 
 /*
- * Takes a word into the assembler (ALERTC_ASSEMBLER cells), and answers in up to ALERTC_ANSWER cells. A word of 2^37 or more, or a state that no
- * calls give: 9. A later group out of turn: 5, index 7: 6, content: 7 or 8. After 5, 7 and 8 the assembler is empty.
+ * Takes a valid word into the assembler. Refused: a word of 2^37 or more or a state that no calls
+ * give (9), continuity index 7 (6): the state stays. A later group out of turn (5), content (7, 8):
+ * the assembler is then empty.
  */
-uint8_t alertc_assembler_step(uint64_t *state, size_t state_len, uint64_t word, uint64_t *answer, size_t answer_len);
+struct alertc_assembler_answer alertc_assembler_step(struct alertc_assembler state, uint64_t word);
+
+/* ---- RDS ---- */
+
+/* The bytes of a group: blocks 1 to 4, high byte first, without check words. */
+#define ALERTC_RDS_GROUP_BYTES 8
+
+/* What a type 8A group carries. */
+struct alertc_rds_group {
+    uint16_t pi;   /* programme identification */
+    uint8_t tp;    /* traffic programme flag, 0 or 1 */
+    uint8_t pty;   /* programme type, 0 to 31 */
+    uint64_t word; /* 37 bits */
+};
+
+struct alertc_rds_reading {
+    struct alertc_rds_group group;
+    uint8_t refusal;
+};
+
+/* Reads a group. Refused: another length (1), another type or version than 8A (2). */
+struct alertc_rds_reading alertc_rds_read(const uint8_t *bytes, size_t bytes_len);
+
+/*
+ * Writes a group and returns the refusal: a field out of its range (9), less room than
+ * ALERTC_RDS_GROUP_BYTES (15).
+ */
+uint8_t alertc_rds_write(struct alertc_rds_group group, uint8_t *out, size_t out_len);
+
+/* The repeat rule's run: the last word, and how often it was heard running. */
+struct alertc_rds_run {
+    uint64_t word; /* 0 before the first group */
+    uint8_t count; /* 0 before the first group, 1, or 2 for twice or more */
+};
+
+/* Before the first group, as at the start and after retuning. */
+#define ALERTC_RDS_RUN_INIT { 0, 0 }
+
+struct alertc_rds_received {
+    struct alertc_rds_run run; /* the next run, to be kept, on a refusal too */
+    uint64_t word;             /* the word if it is valid, else 0 */
+    uint8_t valid;             /* 1 if the group makes its word valid, else 0 */
+    uint8_t refusal;
+};
+
+/*
+ * Takes a group into the run. A word becomes valid at the second of two equal ones running, once;
+ * it then goes to the assembler. Refused: a run that no calls give (9), another length (1), another
+ * type or version (2). Every refusal leaves the run as it was given, so that what is no 8A group
+ * does not end a run.
+ */
+struct alertc_rds_received alertc_rds_receive(struct alertc_rds_run run, const uint8_t *bytes,
+                                              size_t bytes_len);
 
 /* ---- DAB: FIG 5/1 ---- */
 
-/* A FIG's cells: D1 and TCId. */
-#define ALERTC_FIG 2
+/* The most bytes of a FIG, and the most words of 37 and of 16 bits. */
+#define ALERTC_FIG_BYTES 30
+#define ALERTC_FIG_WORDS 6
+#define ALERTC_FIG_SYSTEM_WORDS 14
+
+struct alertc_fig {
+    uint8_t d1;   /* 0: words of 37 bits, 1: system words of 16 bits */
+    uint8_t tcid; /* the service (TMC identifier), 0 to 7 */
+};
+
+struct alertc_fig_reading {
+    size_t count; /* how many words it carries */
+    struct alertc_fig fig;
+    uint8_t refusal;
+};
 
 /*
- * Reads a FIG into ALERTC_FIG cells and its words, and their number: words of 37 bits where D1 is 0, of 16 bits where it is 1. Refused, in this
- * order: length 1, type 2, count 1, extension 2, D2 3, data length 1, padding 3, room for the words 15.
+ * Reads a FIG and its words; ALERTC_FIG_SYSTEM_WORDS always suffice. Refused, in this order: length
+ * (1), type (2), count (1), extension (2), D2 (3), data length (1), padding (3), fewer words lent
+ * than it carries (15).
  */
-uint8_t alertc_fig_read(const uint8_t *bytes, size_t bytes_len, uint64_t *fig, size_t fig_len, uint64_t *words, size_t words_len, size_t *count);
+struct alertc_fig_reading alertc_fig_read(const uint8_t *bytes, size_t bytes_len,
+                                          uint64_t *words, size_t words_len);
 
-/* Writes a FIG and the number of its bytes. A field or word out of its range, no words or too many: 9; less room: 15. */
-uint8_t alertc_fig_write(uint8_t d1, uint8_t tcid, const uint64_t *words, size_t words_len, uint8_t *out, size_t out_len, size_t *count);
+/*
+ * Writes a FIG with these words, at most ALERTC_FIG_BYTES bytes. Refused: a field or word out of
+ * its range, no words or too many (9), less room than needed (15).
+ */
+struct alertc_written alertc_fig_write(struct alertc_fig fig, const uint64_t *words,
+                                       size_t words_len, uint8_t *out, size_t out_len);
 
 /* ---- DRM ---- */
 
-/*
- * A data unit's cells: TMCHI, Short ID, number of services, Country, ECC, number of system words, and the system words (three cells). Without a header
- * (TMCHI 0) all after Short ID is 0. The local time offset, in half hours, stands beside them.
- */
-#define ALERTC_DRM 9
+/* The fewest and the most bytes of a data unit, the most words and the most system words. */
+#define ALERTC_DRM_UNIT_MIN_BYTES 8
+#define ALERTC_DRM_UNIT_BYTES 128
+#define ALERTC_DRM_UNIT_WORDS 27
+#define ALERTC_DRM_UNIT_SYSTEM_WORDS 3
+
+/* A local time offset is within this many half hours, either way. */
+#define ALERTC_LARGEST_LTO 31
+
+/* A data unit without its words. All after the Short ID is the header's, and 0 without one. */
+struct alertc_drm_unit {
+    uint8_t tmchi;        /* 1 with a header, else 0 */
+    uint8_t short_id;     /* the service, 0 to 15 */
+    uint8_t services;     /* number of services, 0 to 15 */
+    uint8_t country;      /* 0 to 15 */
+    uint8_t ecc;          /* extended country code */
+    int8_t lto;           /* local time offset in half hours, -31 to 31, negative to the west */
+    uint8_t system_count; /* number of system words: 1 to 3 with a header */
+    uint16_t system_words[ALERTC_DRM_UNIT_SYSTEM_WORDS]; /* unused ones are 0 */
+};
+
+struct alertc_drm_reading {
+    size_t count; /* how many words it carries */
+    struct alertc_drm_unit unit;
+    uint8_t refusal;
+};
 
 /*
- * Reads a data unit into ALERTC_DRM cells, its local time offset and its words of 37 bits, and their number. Refused, in this order: length 1, check
- * word 4, rfu 3, AID 2, no system words 3, header or remainder 1, padding 3, room for the words 15.
+ * Reads a data unit and its words; ALERTC_DRM_UNIT_WORDS always suffice. Refused, in this order:
+ * length (1), check word (4), rfu (3), application (2), no system words (3), header or remainder
+ * (1), padding (3), fewer words lent than it carries (15).
  */
-uint8_t alertc_drm_read(const uint8_t *bytes, size_t bytes_len, uint64_t *unit, size_t unit_len, int8_t *lto, uint64_t *words, size_t words_len, size_t *count);
+struct alertc_drm_reading alertc_drm_read(const uint8_t *bytes, size_t bytes_len,
+                                          uint64_t *words, size_t words_len);
 
 /*
- * Writes a data unit and the number of its bytes. What the rules shut out, words that are not whole messages on a fresh assembler among it: 9; less
- * room: 15.
+ * Writes a data unit with these words, at most ALERTC_DRM_UNIT_BYTES bytes. Refused: a field out of
+ * its range, a unit too long or without header and words, words that are not whole messages to an
+ * empty assembler (9), less room than needed (15).
  */
-uint8_t alertc_drm_write(const uint64_t *unit, size_t unit_len, int8_t lto, const uint64_t *words, size_t words_len, uint8_t *out, size_t out_len, size_t *count);
+struct alertc_written alertc_drm_write(struct alertc_drm_unit unit, const uint64_t *words,
+                                       size_t words_len, uint8_t *out, size_t out_len);
 
-/* The check word of DRM data units (CRC-16, start all ones, result inverted). It is returned: no bytes are refused. */
+/* The check word of data units (CRC-16, start all ones, result inverted). Nothing is refused. */
 uint16_t alertc_check_word(const uint8_t *bytes, size_t bytes_len);
 
 /* ---- The message table ---- */
 
-/*
- * A table is 32 bytes for each record, 1 to 1,024 records, all bytes 0 at the start. A catalogue is 2,048 entries, and there are 16 lives in minutes.
- * The clock is the last accepted minute of UTC, 0 at the start.
- */
+/* A table is ALERTC_RECORD_BYTES for each record, at most ALERTC_RECORDS, all 0 at the start. */
 #define ALERTC_RECORD_BYTES 32
-#define ALERTC_EVENTS 2048
-#define ALERTC_LIVES 16
-
-/* The cells of a take's answer: how many records expired, how many matched, whether the report was stored (1, else 0), and its place (else 0). */
-#define ALERTC_TAKE 4
+#define ALERTC_RECORDS 1024
 
 /*
- * Takes a report (ALERTC_REPORT cells) of a service at a minute of UTC with a local time offset in half hours, and answers in ALERTC_TAKE cells. Frees
- * the expired records and, for an ordinary or cancelling event, the matching ones, and stores the report of an ordinary event in the
- * lowest-numbered free record. Refused, in this order: table, catalogue or lives 10, report, service or offset 9, minute 13, location 12, unknown event
- * 11, no room 14.
+ * A catalogue has an entry for each event code: bits 0 to 5 the update class, 6 and 7 the kind (0
+ * unknown, 1 ordinary, 2 cancelling, 3 null), bit 8 the duration type, the rest 0; the class is 0
+ * exactly if the kind is 0 or 3.
  */
-uint8_t alertc_table_take(uint8_t *table, size_t table_len, const uint16_t *catalogue, size_t catalogue_len, const uint16_t *lives, size_t lives_len,
-                          uint32_t *clock, const uint64_t *report, size_t report_len, uint8_t country, uint8_t ltn, uint8_t sid, uint32_t minute,
-                          int8_t lto, uint64_t *answer, size_t answer_len);
+#define ALERTC_EVENTS 2048
+#define ALERTC_CATALOGUE_ENTRY(update_class, kind, duration_type) \
+    ((update_class) + 64 * (kind) + 256 * (duration_type))
 
-/* Frees the records that expire at or before a minute, and answers their number. Refused: table 10, minute 13. */
-uint8_t alertc_table_expire(uint8_t *table, size_t table_len, uint32_t *clock, uint32_t minute, size_t *expired);
+/* Lives in minutes, at 8 * duration type + duration; 0 is until the service's next midnight. */
+#define ALERTC_LIVES 16
+#define ALERTC_LONGEST_LIFE 10080
 
-/* The cells of a record read: 0 where it is free; else 1, the report's cells, country, LTN, SID, expiry minute. */
-#define ALERTC_RECORD (1 + ALERTC_REPORT + 4)
+/* The largest minute of a call. Minutes are of UTC and count from a midnight. */
+#define ALERTC_LARGEST_MINUTE UINT32_C(4000000000)
 
-/* Reads record number i into up to ALERTC_RECORD cells. Refused: table 10, a place past the last record 9, content 7 or 8. */
-uint8_t alertc_table_read(const uint8_t *table, size_t table_len, size_t i, uint64_t *record, size_t record_len);
+/* Location codes from here on are not of the service's own table, and are refused. */
+#define ALERTC_FOREIGN_LOCATION 0xFC00
 
-/* The minute at which a report of this life, taken at this minute, expires; life 0 is until the next midnight. It is returned: nothing is refused. */
+struct alertc_service {
+    uint8_t country; /* 0 to 15 */
+    uint8_t ltn;     /* location table number, 0 to 63 */
+    uint8_t sid;     /* service identifier, 0 to 63 */
+};
+
+struct alertc_table_answer {
+    size_t expired; /* how many records were freed because their time was over */
+    size_t matched; /* how many were freed because the report replaces or cancels them */
+    size_t place;   /* where the report was stored, from 0; 0 if it was not */
+    uint8_t stored; /* 1 if it was, else 0 */
+    uint8_t refusal;
+};
+
+/*
+ * Takes a report of a service at a minute, with the service's local time offset in half hours.
+ * `clock` is the last accepted minute, 0 at the start. Frees the expired records and, for an
+ * ordinary or cancelling event, those of the same service, location, direction and update class;
+ * stores the report of an ordinary event in the lowest-numbered free record. Refused, in this
+ * order: table, catalogue or lives, their sizes included (10), report, service or offset (9),
+ * minute (13), location (12), event unknown (11), no room (14).
+ */
+struct alertc_table_answer alertc_table_take(uint8_t *table, size_t table_len,
+                                             const uint16_t *catalogue, size_t catalogue_len,
+                                             const uint16_t *lives, size_t lives_len,
+                                             uint32_t *clock, struct alertc_report report,
+                                             struct alertc_service service, uint32_t minute,
+                                             int8_t lto);
+
+/* Frees the records that expire at or before a minute. Refused: table (10), minute (13). */
+struct alertc_table_answer alertc_table_expire(uint8_t *table, size_t table_len, uint32_t *clock,
+                                               uint32_t minute);
+
+struct alertc_table_reading {
+    struct alertc_report report;   /* all 0 if the record is free */
+    struct alertc_service service; /* so is this */
+    uint32_t expiry;               /* the minute at which it expires */
+    uint8_t used;                  /* 1 if the record holds a report, 0 if it is free */
+    uint8_t refusal;
+};
+
+/*
+ * Reads the record at a place, from 0. Refused: table (10), a place past the last record (9),
+ * content (7, 8).
+ */
+struct alertc_table_reading alertc_table_read(const uint8_t *table, size_t table_len,
+                                              size_t place);
+
+/* The minute at which a report of this life, taken at this minute, expires. Nothing is refused. */
 uint64_t alertc_expiry(uint32_t minute, int8_t lto, uint16_t life);
+
+/* ---- The layouts on which the archive and its callers agree ---- */
+
+#if defined(__cplusplus)
+#define ALERTC_ASSERT_(name, fact) static_assert(fact, #name)
+#elif defined(__STDC_VERSION__) && __STDC_VERSION__ >= 201112L
+#define ALERTC_ASSERT_(name, fact) _Static_assert(fact, #name)
+#else
+#define ALERTC_ASSERT_(name, fact) typedef char alertc_assert_##name[(fact) ? 1 : -1]
+#endif
+#define ALERTC_SIZE_(type, bytes) ALERTC_ASSERT_(type##_size, sizeof(struct alertc_##type) == bytes)
+#define ALERTC_AT_(type, field, bytes) \
+    ALERTC_ASSERT_(type##_##field, offsetof(struct alertc_##type, field) == bytes)
+
+ALERTC_SIZE_(word_fields, 24);
+ALERTC_AT_(word_fields, content, 8);
+ALERTC_AT_(word_fields, direction, 12);
+ALERTC_AT_(word_fields, extent, 13);
+ALERTC_AT_(word_fields, event, 14);
+ALERTC_AT_(word_fields, location, 16);
+ALERTC_AT_(word_fields, duration, 18);
+ALERTC_AT_(word_fields, diversion, 19);
+ALERTC_AT_(word_fields, ci, 20);
+ALERTC_AT_(word_fields, second, 21);
+ALERTC_AT_(word_fields, gsi, 22);
+ALERTC_AT_(word_fields, kind, 23);
+ALERTC_SIZE_(word_parsed, 32);
+ALERTC_AT_(word_parsed, refusal, 24);
+ALERTC_SIZE_(word_composed, 16);
+ALERTC_AT_(word_composed, refusal, 8);
+ALERTC_SIZE_(system_fields, 13);
+ALERTC_AT_(system_fields, gap, 8);
+ALERTC_SIZE_(system_reading, 14);
+ALERTC_AT_(system_reading, refusal, 13);
+ALERTC_SIZE_(system_written, 4);
+ALERTC_AT_(system_written, refusal, 2);
+ALERTC_SIZE_(item, 4);
+ALERTC_SIZE_(report, 136);
+ALERTC_AT_(report, item_count, 112);
+ALERTC_AT_(report, direction, 120);
+ALERTC_AT_(report, extent, 121);
+ALERTC_AT_(report, event, 122);
+ALERTC_AT_(report, location, 124);
+ALERTC_AT_(report, diversion, 126);
+ALERTC_AT_(report, duration, 127);
+ALERTC_AT_(report, form, 128);
+ALERTC_SIZE_(written, 16);
+ALERTC_AT_(written, refusal, 8);
+ALERTC_SIZE_(assembler, 24);
+ALERTC_AT_(assembler, first_group, 2);
+ALERTC_AT_(assembler, gsi, 8);
+ALERTC_AT_(assembler, later_groups, 9);
+ALERTC_AT_(assembler, contents, 12);
+ALERTC_SIZE_(assembler_answer, 176);
+ALERTC_AT_(assembler_answer, next, 136);
+ALERTC_AT_(assembler_answer, word, 160);
+ALERTC_AT_(assembler_answer, kind, 168);
+ALERTC_AT_(assembler_answer, refusal, 169);
+ALERTC_SIZE_(rds_group, 16);
+ALERTC_AT_(rds_group, tp, 2);
+ALERTC_AT_(rds_group, pty, 3);
+ALERTC_AT_(rds_group, word, 8);
+ALERTC_SIZE_(rds_reading, 24);
+ALERTC_AT_(rds_reading, refusal, 16);
+ALERTC_SIZE_(rds_run, 16);
+ALERTC_AT_(rds_run, count, 8);
+ALERTC_SIZE_(rds_received, 32);
+ALERTC_AT_(rds_received, word, 16);
+ALERTC_AT_(rds_received, valid, 24);
+ALERTC_AT_(rds_received, refusal, 25);
+ALERTC_SIZE_(fig, 2);
+ALERTC_SIZE_(fig_reading, 16);
+ALERTC_AT_(fig_reading, fig, 8);
+ALERTC_AT_(fig_reading, refusal, 10);
+ALERTC_SIZE_(drm_unit, 14);
+ALERTC_AT_(drm_unit, lto, 5);
+ALERTC_AT_(drm_unit, system_count, 6);
+ALERTC_AT_(drm_unit, system_words, 8);
+ALERTC_SIZE_(drm_reading, 24);
+ALERTC_AT_(drm_reading, unit, 8);
+ALERTC_AT_(drm_reading, refusal, 22);
+ALERTC_SIZE_(service, 3);
+ALERTC_SIZE_(table_answer, 32);
+ALERTC_AT_(table_answer, matched, 8);
+ALERTC_AT_(table_answer, place, 16);
+ALERTC_AT_(table_answer, stored, 24);
+ALERTC_AT_(table_answer, refusal, 25);
+ALERTC_SIZE_(table_reading, 152);
+ALERTC_AT_(table_reading, service, 136);
+ALERTC_AT_(table_reading, expiry, 140);
+ALERTC_AT_(table_reading, used, 144);
+ALERTC_AT_(table_reading, refusal, 145);
+
+#undef ALERTC_AT_
+#undef ALERTC_SIZE_
+#undef ALERTC_ASSERT_
 
 #ifdef __cplusplus
 }

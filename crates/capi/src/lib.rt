@@ -1,10 +1,5 @@
-// The library's calls for C (include/alertc.h): each tests the sizes of what it is lent, makes values of the cells, calls the library and writes
-// its answer into cells.
-mod assembling;
-mod figs;
-mod groups;
+// The library's calls for C (include/alertc.h). Values go in and come back as structs; bytes, words, tables, catalogues, lives and the clock are lent.
+mod carriers;
 mod reports;
-mod runs;
 mod tables;
-mod units;
 mod words;

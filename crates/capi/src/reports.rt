@@ -1,40 +1,32 @@
-// Reports.
+// Reports and the assembler.
 ghost use mathlib.Core.Path.{_≡_};
-ghost use Rattle.clock.specs.Time.{expiryOf};
-ghost use Rattle.capi.specs.Reporting.{writeNumber, wordsAfter, countAfter};
-use cells::reports::report_from;
-use clock::Utc;
-use report::Writing;
+ghost use lib.ListN.{length};
+ghost use Rattle.report.specs.Write.{writeReport, wordsAfter};
+ghost use Rattle.report.specs.Read.{readReport};
+ghost use Rattle.assembler.specs.Step.{stepOf};
+ghost use Rattle.c_values.specs.Reports.{reportFrom};
+ghost use Rattle.c_values.specs.States.{stateFrom};
+ghost use Rattle.c_answers.specs.Reports.{reportWritten, stepAnswer};
+use assembler::Partial;
+use c_answers::reports::AssemblerAnswer;
+use c_answers::reports::Written;
+use c_answers::reports::report_written;
+use c_values::reports::PlainReport;
+use c_values::states::state_from;
 
-// Writes the words of a report with a continuity index, and their number.
+// Writes the words of a report with a continuity index. What no message says is refused (9), then too small a buffer (15).
 #[no_mangle]
-pub extern "C" fn alertc_report_write(
-    report: &[u64],
-    ci: u8,
-    words: &mut [u64],
-    count: &mut usize,
-) -> u8
-    ensures { λ n. ⌜ n ≡ writeNumber (now (report .entry)) ci (now (words .entry)) ⌝ }
-    ensures { λ _. ⌜ now (words .exit) ≡ wordsAfter (now (report .entry)) ci (now (words .entry)) ⌝ }
-    ensures { λ _. ⌜ now (count .exit) ≡ countAfter (now (report .entry)) ci (now (words .entry)) (now (count .entry)) ⌝ }
+pub extern "C" fn alertc_report_write(report: PlainReport, ci: u8, words: &mut [u64]) -> Written
+    ensures { λ r. ⌜ r ≡ reportWritten (writeReport ci (reportFrom report) (length (now (words .entry)))) ⌝ }
+    ensures { λ _. ⌜ now (words .exit) ≡ wordsAfter ci (reportFrom report) (now (words .entry)) ⌝ }
 {
-    if report.len() < cells::reports::CELLS {
-        return 15;
-    }
-    let writing = report_from(report).write(ci, words);
-    match writing {
-        Writing::Written(n) => {
-            *count = n;
-            0
-        }
-        Writing::Refused(n) => n,
-    }
+    report_written(report.report().write(ci, words))
 }
 
-// The minute at which a report of this life, taken at this minute, expires.
+// Takes a word into the assembler.
 #[no_mangle]
-pub extern "C" fn alertc_expiry(minute: u32, lto: i8, life: u16) -> u64
-    ensures { λ r. ⌜ r ≡ expiryOf minute lto life ⌝ }
+pub extern "C" fn alertc_assembler_step(state: Partial, word: u64) -> AssemblerAnswer
+    ensures { λ r. ⌜ r ≡ stepAnswer (stepOf readReport (stateFrom state) word) ⌝ }
 {
-    Utc(minute).expiry(lto, life)
+    AssemblerAnswer::of(state_from(state).step(word))
 }

@@ -1,88 +1,49 @@
 // 37-bit words and system words.
 ghost use mathlib.Core.Path.{_≡_};
-ghost use Rattle.capi.specs.Wording.{parseNumber, fieldsAfter, composeNumber, wordAfter, readNumber, systemAfter, writeNumber, systemWordAfter};
-use cells::array::put;
-use system::Reading;
+ghost use Rattle.word.specs.Kind.{kindOf};
+ghost use Rattle.word.specs.Compose.{composed};
+ghost use Rattle.system.specs.Read.{systemOf};
+ghost use Rattle.system.specs.Write.{written};
+ghost use Rattle.c_values.specs.Words.{wordFrom};
+ghost use Rattle.c_values.specs.Systems.{systemFrom};
+ghost use Rattle.c_answers.specs.Words.{wordParsed, wordComposed, systemReading, systemWritten};
+use c_answers::words::SystemReading;
+use c_answers::words::SystemWritten;
+use c_answers::words::WordComposed;
+use c_answers::words::WordParsed;
+use c_values::systems::SystemFields;
+use c_values::words::WordFields;
 use system::System;
-use system::Writing;
-use word::Composed;
 use word::Word;
-use word_cells::systems::system_cells;
-use word_cells::systems::system_from;
-use word_cells::words::word_cells;
-use word_cells::words::word_from;
 
-// Takes a word apart into seven cells.
+// Takes a word apart. A number that is no word is refused (9).
 #[no_mangle]
-pub extern "C" fn alertc_word_parse(word: u64, fields: &mut [u64]) -> u8
-    ensures { λ n. ⌜ n ≡ parseNumber word (now (fields .entry)) ⌝ }
-    ensures { λ _. ⌜ now (fields .exit) ≡ fieldsAfter word (now (fields .entry)) ⌝ }
+pub extern "C" fn alertc_word_parse(word: u64) -> WordParsed
+    ensures { λ r. ⌜ r ≡ wordParsed (kindOf word) ⌝ }
 {
-    if fields.len() < word_cells::words::CELLS {
-        return 15;
-    }
-    if Word::LIMIT <= word {
-        return 9;
-    }
-    let cells = word_cells(Word::parse(word));
-    put(&cells, 0, fields);
-    0
+    WordParsed::of(Word::parse(word))
 }
 
-// The word of seven cells.
+// The word of fields. A field out of its range, one that the kind does not have and that is not 0, and another kind are refused (9).
 #[no_mangle]
-pub extern "C" fn alertc_word_compose(fields: &[u64], word: &mut u64) -> u8
-    ensures { λ n. ⌜ n ≡ composeNumber (now (fields .entry)) ⌝ }
-    ensures { λ _. ⌜ now (word .exit) ≡ wordAfter (now (fields .entry)) (now (word .entry)) ⌝ }
+pub extern "C" fn alertc_word_compose(fields: WordFields) -> WordComposed
+    ensures { λ r. ⌜ r ≡ wordComposed (composed (wordFrom fields)) ⌝ }
 {
-    if fields.len() < word_cells::words::CELLS {
-        return 15;
-    }
-    let composed = word_from(fields).compose();
-    match composed {
-        Composed::Number(n) => {
-            *word = n;
-            0
-        }
-        Composed::Refused(n) => n,
-    }
+    WordComposed::of(fields.word().compose())
 }
 
-// Reads a system word into eight cells.
+// Reads a system word. Another variant is refused (2).
 #[no_mangle]
-pub extern "C" fn alertc_system_read(word: u16, fields: &mut [u64]) -> u8
-    ensures { λ n. ⌜ n ≡ readNumber word (now (fields .entry)) ⌝ }
-    ensures { λ _. ⌜ now (fields .exit) ≡ systemAfter word (now (fields .entry)) ⌝ }
+pub extern "C" fn alertc_system_read(word: u16) -> SystemReading
+    ensures { λ r. ⌜ r ≡ systemReading (systemOf word) ⌝ }
 {
-    if fields.len() < word_cells::systems::CELLS {
-        return 15;
-    }
-    let reading = System::read(word);
-    match reading {
-        Reading::Taken(system) => {
-            let cells = system_cells(system);
-            put(&cells, 0, fields);
-            0
-        }
-        Reading::Refused(n) => n,
-    }
+    SystemReading::of(System::read(word))
 }
 
-// The system word of eight cells.
+// The system word of fields. A field out of its range, one that the variant does not have and that is not 0, and another variant are refused (9).
 #[no_mangle]
-pub extern "C" fn alertc_system_write(fields: &[u64], word: &mut u16) -> u8
-    ensures { λ n. ⌜ n ≡ writeNumber (now (fields .entry)) ⌝ }
-    ensures { λ _. ⌜ now (word .exit) ≡ systemWordAfter (now (fields .entry)) (now (word .entry)) ⌝ }
+pub extern "C" fn alertc_system_write(fields: SystemFields) -> SystemWritten
+    ensures { λ r. ⌜ r ≡ systemWritten (written (systemFrom fields)) ⌝ }
 {
-    if fields.len() < word_cells::systems::CELLS {
-        return 15;
-    }
-    let writing = system_from(fields).write();
-    match writing {
-        Writing::Word(n) => {
-            *word = n;
-            0
-        }
-        Writing::Refused(n) => n,
-    }
+    SystemWritten::of(fields.system().write())
 }

@@ -1,0 +1,727 @@
+/*
+ * Calls every function of alertc.h as a C program does and compares what it answers, all fields and
+ * all lent memory, with values from the rules: their worked words, cases and layouts, and a
+ * published check value. A wrong prototype, field or layout of the header shows here.
+ *
+ * It is written in what C99, C11 and C++17 have in common, and ./test compiles and runs it as each
+ * of them. It prints what differs, and then how many comparisons there were; its exit status is 0
+ * only where nothing differs.
+ */
+#include <stdio.h>
+#include <string.h>
+
+#include "alertc.h"
+
+static unsigned compared, differing;
+
+#define SAME(found, expected) same(__LINE__, #found, (uint64_t)(found), (uint64_t)(expected))
+
+static void same(int line, const char *what, uint64_t found, uint64_t expected) {
+    compared++;
+    if (found != expected) {
+        differing++;
+        printf("line %d: %s is %llu (0x%llx), expected %llu (0x%llx)\n", line, what,
+               (unsigned long long)found, (unsigned long long)found, (unsigned long long)expected,
+               (unsigned long long)expected);
+    }
+}
+
+#define SAME_BYTES(found, expected, count) same_bytes(__LINE__, #found, found, expected, count)
+
+static void same_bytes(int line, const char *what, const uint8_t *found, const uint8_t *expected,
+                       size_t count) {
+    compared++;
+    if (memcmp(found, expected, count) != 0) {
+        differing++;
+        printf("line %d: %s differs:", line, what);
+        for (size_t i = 0; i < count; i++) {
+            printf(" %02X/%02X", found[i], expected[i]);
+        }
+        puts("");
+    }
+}
+
+/* Whether the last cells of a lent buffer are as they were. */
+enum { UNTOUCHED = 0xA5 };
+#define REST_UNTOUCHED(buffer, from)                                                               \
+    rest_untouched(__LINE__, #buffer, buffer, sizeof(buffer[0]) * (from), sizeof buffer)
+
+static void rest_untouched(int line, const char *what, const void *buffer, size_t from,
+                           size_t size) {
+    const uint8_t *bytes = (const uint8_t *)buffer;
+    for (size_t i = from; i < size; i++) {
+        same(line, what, bytes[i], UNTOUCHED);
+    }
+}
+
+#define TOUCH_NONE(buffer) memset(buffer, UNTOUCHED, sizeof buffer)
+
+/* The worked words of the rules. */
+#define SINGLE_101 UINT64_C(0x0B50653039)
+#define FIRST_401 UINT64_C(0x02899101F4)
+#define LATER_401 UINT64_C(0x0243502000)
+#define STRAY_401 UINT64_C(0x0343502000)
+
+static struct alertc_report report_101(void) {
+    struct alertc_report r = ALERTC_REPORT_INIT;
+    r.event = 101;
+    r.location = 12345;
+    r.direction = 1;
+    r.extent = 2;
+    r.duration = 3;
+    return r;
+}
+
+static struct alertc_report report_401(void) {
+    struct alertc_report r = ALERTC_REPORT_INIT;
+    r.form = ALERTC_MULTI_GROUP;
+    r.event = 401;
+    r.location = 500;
+    r.extent = 1;
+    r.duration = 2;
+    r.item_count = 2;
+    r.items[0].label = 3;
+    r.items[0].value = 10;
+    r.items[1].label = 0;
+    r.items[1].value = 2;
+    return r;
+}
+
+#define SAME_REPORT(found, expected) same_report(__LINE__, found, expected)
+
+static void same_report(int line, struct alertc_report found, struct alertc_report expected) {
+    same(line, "form", found.form, expected.form);
+    same(line, "event", found.event, expected.event);
+    same(line, "location", found.location, expected.location);
+    same(line, "direction", found.direction, expected.direction);
+    same(line, "extent", found.extent, expected.extent);
+    same(line, "diversion", found.diversion, expected.diversion);
+    same(line, "duration", found.duration, expected.duration);
+    same(line, "item_count", found.item_count, expected.item_count);
+    for (size_t i = 0; i < ALERTC_ITEMS; i++) {
+        same(line, "label", found.items[i].label, expected.items[i].label);
+        same(line, "value", found.items[i].value, expected.items[i].value);
+    }
+}
+
+#define SAME_FIELDS(found, expected) same_fields(__LINE__, found, expected)
+
+static void same_fields(int line, struct alertc_word_fields found,
+                        struct alertc_word_fields expected) {
+    same(line, "kind", found.kind, expected.kind);
+    same(line, "word", found.word, expected.word);
+    same(line, "content", found.content, expected.content);
+    same(line, "direction", found.direction, expected.direction);
+    same(line, "extent", found.extent, expected.extent);
+    same(line, "event", found.event, expected.event);
+    same(line, "location", found.location, expected.location);
+    same(line, "duration", found.duration, expected.duration);
+    same(line, "diversion", found.diversion, expected.diversion);
+    same(line, "ci", found.ci, expected.ci);
+    same(line, "second", found.second, expected.second);
+    same(line, "gsi", found.gsi, expected.gsi);
+}
+
+#define SAME_WORD(word, fields) same_word(__LINE__, word, fields)
+
+/* A word is taken apart into these fields, and they compose to it. */
+static void same_word(int line, uint64_t word, struct alertc_word_fields fields) {
+    struct alertc_word_parsed parsed = alertc_word_parse(word);
+    struct alertc_word_composed composed = alertc_word_compose(fields);
+    same(line, "refusal", parsed.refusal, ALERTC_ACCEPTED);
+    same_fields(line, parsed.fields, fields);
+    same(line, "refusal", composed.refusal, ALERTC_ACCEPTED);
+    same(line, "composed word", composed.word, word);
+}
+
+static struct alertc_word_fields no_fields(void) {
+    struct alertc_word_fields f;
+    memset(&f, 0, sizeof f);
+    return f;
+}
+
+static void words(void) {
+    struct alertc_word_fields single = no_fields(), first = no_fields(), later = no_fields(),
+                              whole = no_fields();
+    single.kind = ALERTC_WORD_SINGLE;
+    single.duration = 3;
+    single.direction = 1;
+    single.extent = 2;
+    single.event = 101;
+    single.location = 12345;
+    SAME_WORD(SINGLE_101, single);
+    single.duration = 5;
+    single.diversion = 1;
+    single.direction = 0;
+    single.extent = 6;
+    single.event = 1234;
+    single.location = 0xBEEF;
+    SAME_WORD(UINT64_C(0x0DB4D2BEEF), single);
+    first.kind = ALERTC_WORD_FIRST;
+    first.ci = 2;
+    first.extent = 1;
+    first.event = 401;
+    first.location = 500;
+    SAME_WORD(FIRST_401, first);
+    later.kind = ALERTC_WORD_LATER;
+    later.ci = 2;
+    later.second = 1;
+    later.content = 0x3502000;
+    SAME_WORD(LATER_401, later);
+    later.ci = 6;
+    later.second = 0;
+    later.gsi = 3;
+    later.content = 0xFFFFFFF;
+    SAME_WORD(UINT64_C(0x063FFFFFFF), later);
+    whole.kind = ALERTC_WORD_TUNING;
+    whole.word = UINT64_C(0x1123456789);
+    SAME_WORD(whole.word, whole);
+    whole.kind = ALERTC_WORD_ADMINISTRATION;
+    whole.word = UINT64_C(0x0012345678);
+    SAME_WORD(whole.word, whole);
+    whole.kind = ALERTC_WORD_INDEX_7;
+    whole.word = UINT64_C(0x0712345678);
+    SAME_WORD(whole.word, whole);
+
+    struct alertc_word_parsed beyond = alertc_word_parse(ALERTC_WORD_LIMIT);
+    SAME(beyond.refusal, ALERTC_REFUSED_UNFIT);
+    SAME_FIELDS(beyond.fields, no_fields());
+
+    single.extent = 8; /* out of its range */
+    SAME(alertc_word_compose(single).refusal, ALERTC_REFUSED_UNFIT);
+    SAME(alertc_word_compose(single).word, 0);
+    single.extent = 7;
+    SAME(alertc_word_compose(single).refusal, ALERTC_ACCEPTED);
+    single.ci = 1; /* a single-group message has none */
+    SAME(alertc_word_compose(single).refusal, ALERTC_REFUSED_UNFIT);
+    whole.kind = 6;
+    SAME(alertc_word_compose(whole).refusal, ALERTC_REFUSED_UNFIT);
+}
+
+static void system_words(void) {
+    struct alertc_system_reading r = alertc_system_read(0x0466);
+    SAME(r.refusal, ALERTC_ACCEPTED);
+    SAME(r.fields.variant, 0);
+    SAME(r.fields.ltn, 17);
+    SAME(r.fields.afi, 1);
+    SAME(r.fields.mode, 0);
+    SAME(r.fields.international, 0);
+    SAME(r.fields.national, 1);
+    SAME(r.fields.regional, 1);
+    SAME(r.fields.urban, 0);
+    SAME(r.fields.gap | r.fields.sid | r.fields.ta | r.fields.tw | r.fields.td, 0);
+    SAME(alertc_system_write(r.fields).refusal, ALERTC_ACCEPTED);
+    SAME(alertc_system_write(r.fields).word, 0x0466);
+    r.fields.ltn = 64;
+    SAME(alertc_system_write(r.fields).refusal, ALERTC_REFUSED_UNFIT);
+    SAME(alertc_system_write(r.fields).word, 0);
+
+    r = alertc_system_read(0x0019); /* mode, international, urban */
+    SAME(r.fields.mode, 1);
+    SAME(r.fields.international, 1);
+    SAME(r.fields.national | r.fields.regional | r.fields.afi | r.fields.ltn, 0);
+    SAME(r.fields.urban, 1);
+
+    r = alertc_system_read(0x695E); /* 01 10 100101 01 11 10 */
+    SAME(r.refusal, ALERTC_ACCEPTED);
+    SAME(r.fields.variant, 1);
+    SAME(r.fields.gap, 2);
+    SAME(r.fields.sid, 37);
+    SAME(r.fields.ta, 1);
+    SAME(r.fields.tw, 3);
+    SAME(r.fields.td, 2);
+    SAME(r.fields.ltn | r.fields.afi | r.fields.mode | r.fields.international | r.fields.national |
+             r.fields.regional | r.fields.urban,
+         0);
+    SAME(alertc_system_write(r.fields).word, 0x695E);
+    r.fields.afi = 1; /* variant 1 has none */
+    SAME(alertc_system_write(r.fields).refusal, ALERTC_REFUSED_UNFIT);
+
+    SAME(alertc_system_read(0x8000).refusal, ALERTC_REFUSED_TYPE);
+}
+
+static void reports(void) {
+    uint64_t words[ALERTC_MESSAGE_WORDS];
+    TOUCH_NONE(words);
+    struct alertc_written w = alertc_report_write(report_101(), 0, words, ALERTC_MESSAGE_WORDS);
+    SAME(w.refusal, ALERTC_ACCEPTED);
+    SAME(w.count, 1);
+    SAME(words[0], SINGLE_101);
+    REST_UNTOUCHED(words, 1);
+
+    TOUCH_NONE(words);
+    w = alertc_report_write(report_401(), 2, words, ALERTC_MESSAGE_WORDS);
+    SAME(w.refusal, ALERTC_ACCEPTED);
+    SAME(w.count, 2);
+    SAME(words[0], FIRST_401);
+    SAME(words[1], LATER_401);
+    REST_UNTOUCHED(words, 2);
+
+    TOUCH_NONE(words);
+    w = alertc_report_write(report_401(), 2, words, 1);
+    SAME(w.refusal, ALERTC_REFUSED_BUFFER);
+    SAME(w.count, 0);
+    SAME(alertc_report_write(report_401(), 0, words, ALERTC_MESSAGE_WORDS).refusal,
+         ALERTC_REFUSED_UNFIT);
+    SAME(alertc_report_write(report_401(), 7, words, ALERTC_MESSAGE_WORDS).refusal,
+         ALERTC_REFUSED_UNFIT);
+    SAME(alertc_report_write(report_101(), 1, words, ALERTC_MESSAGE_WORDS).refusal,
+         ALERTC_REFUSED_UNFIT);
+    struct alertc_report other = report_101();
+    other.form = 2;
+    SAME(alertc_report_write(other, 0, words, ALERTC_MESSAGE_WORDS).refusal, ALERTC_REFUSED_UNFIT);
+    REST_UNTOUCHED(words, 0);
+}
+
+#define SAME_STATE(found, expected) same_state(__LINE__, found, expected)
+
+static void same_state(int line, struct alertc_assembler found, struct alertc_assembler expected) {
+    same(line, "ci", found.ci, expected.ci);
+    same(line, "direction", found.first_group.direction, expected.first_group.direction);
+    same(line, "extent", found.first_group.extent, expected.first_group.extent);
+    same(line, "event", found.first_group.event, expected.first_group.event);
+    same(line, "location", found.first_group.location, expected.first_group.location);
+    same(line, "gsi", found.gsi, expected.gsi);
+    same(line, "later_groups", found.later_groups, expected.later_groups);
+    for (size_t i = 0; i < 3; i++) {
+        same(line, "contents", found.contents[i], expected.contents[i]);
+    }
+}
+
+static void assembler(void) {
+    const struct alertc_assembler empty = ALERTC_ASSEMBLER_INIT;
+    const struct alertc_report none = ALERTC_REPORT_INIT;
+
+    struct alertc_assembler_answer a = alertc_assembler_step(empty, SINGLE_101);
+    SAME(a.refusal, ALERTC_ACCEPTED);
+    SAME(a.kind, ALERTC_ANSWER_REPORT);
+    SAME(a.word, 0);
+    SAME_REPORT(a.report, report_101());
+    SAME_STATE(a.next, empty);
+
+    a = alertc_assembler_step(empty, FIRST_401);
+    SAME(a.refusal, ALERTC_ACCEPTED);
+    SAME(a.kind, ALERTC_ANSWER_NOTHING);
+    SAME_REPORT(a.report, none);
+    struct alertc_assembler opened = ALERTC_ASSEMBLER_INIT;
+    opened.ci = 2;
+    opened.first_group.extent = 1;
+    opened.first_group.event = 401;
+    opened.first_group.location = 500;
+    SAME_STATE(a.next, opened);
+
+    a = alertc_assembler_step(opened, LATER_401);
+    SAME(a.refusal, ALERTC_ACCEPTED);
+    SAME(a.kind, ALERTC_ANSWER_REPORT);
+    SAME_REPORT(a.report, report_401());
+    SAME_STATE(a.next, empty);
+
+    a = alertc_assembler_step(opened, STRAY_401);
+    SAME(a.refusal, ALERTC_REFUSED_OUT_OF_TURN);
+    SAME(a.kind, ALERTC_ANSWER_NOTHING);
+    SAME_REPORT(a.report, none);
+    SAME_STATE(a.next, empty);
+    SAME(alertc_assembler_step(empty, LATER_401).refusal, ALERTC_REFUSED_OUT_OF_TURN);
+
+    /* 28 ones begin with label 15. Three items (0,0) leave seven bits, too few for label 2. */
+    SAME(alertc_assembler_step(opened, UINT64_C(0x024FFFFFFF)).refusal, ALERTC_REFUSED_LABEL_15);
+    a = alertc_assembler_step(opened, UINT64_C(0x0240000011));
+    SAME(a.refusal, ALERTC_REFUSED_CONTENT);
+    SAME_STATE(a.next, empty);
+
+    a = alertc_assembler_step(opened, UINT64_C(0x1123456789));
+    SAME(a.refusal, ALERTC_ACCEPTED);
+    SAME(a.kind, ALERTC_ANSWER_TUNING);
+    SAME(a.word, UINT64_C(0x1123456789));
+    SAME_STATE(a.next, opened);
+    a = alertc_assembler_step(opened, UINT64_C(0x0012345678));
+    SAME(a.kind, ALERTC_ANSWER_ADMINISTRATION);
+    SAME(a.word, UINT64_C(0x0012345678));
+    a = alertc_assembler_step(opened, UINT64_C(0x0712345678));
+    SAME(a.refusal, ALERTC_REFUSED_INDEX_7);
+    SAME(a.word, 0);
+    SAME_STATE(a.next, opened);
+    a = alertc_assembler_step(opened, ALERTC_WORD_LIMIT);
+    SAME(a.refusal, ALERTC_REFUSED_UNFIT);
+    SAME_STATE(a.next, opened);
+
+    /* Five groups of index 4, whose content is 28 items of label 14. */
+    const uint64_t groups[ALERTC_MESSAGE_WORDS] = {UINT64_C(0x04E0651234), UINT64_C(0x047EEEEEEE),
+                                                   UINT64_C(0x042EEEEEEE), UINT64_C(0x041EEEEEEE),
+                                                   UINT64_C(0x040EEEEEEE)};
+    struct alertc_assembler state = ALERTC_ASSEMBLER_INIT;
+    for (size_t i = 0; i < 4; i++) {
+        a = alertc_assembler_step(state, groups[i]);
+        SAME(a.refusal, ALERTC_ACCEPTED);
+        SAME(a.kind, ALERTC_ANSWER_NOTHING);
+        state = a.next;
+    }
+    struct alertc_assembler three = ALERTC_ASSEMBLER_INIT;
+    three.ci = 4;
+    three.first_group.direction = 1;
+    three.first_group.extent = 4;
+    three.first_group.event = 101;
+    three.first_group.location = 0x1234;
+    three.gsi = 1;
+    three.later_groups = 3;
+    three.contents[0] = three.contents[1] = three.contents[2] = 0xEEEEEEE;
+    SAME_STATE(state, three);
+    struct alertc_report full = ALERTC_REPORT_INIT;
+    full.form = ALERTC_MULTI_GROUP;
+    full.direction = 1;
+    full.extent = 4;
+    full.event = 101;
+    full.location = 0x1234;
+    full.item_count = ALERTC_ITEMS;
+    for (size_t i = 0; i < ALERTC_ITEMS; i++) {
+        full.items[i].label = 14;
+    }
+    a = alertc_assembler_step(state, groups[4]);
+    SAME(a.kind, ALERTC_ANSWER_REPORT);
+    SAME_REPORT(a.report, full);
+    SAME_STATE(a.next, empty);
+
+    /* The contents stand in order, and a state that no calls give is refused and kept. */
+    a = alertc_assembler_step(opened, UINT64_C(0x0270000001));
+    a = alertc_assembler_step(a.next, UINT64_C(0x0220000002));
+    a = alertc_assembler_step(a.next, UINT64_C(0x0210000003));
+    SAME(a.next.contents[0], 1);
+    SAME(a.next.contents[1], 2);
+    SAME(a.next.contents[2], 3);
+    struct alertc_assembler unreached = ALERTC_ASSEMBLER_INIT;
+    unreached.gsi = 1;
+    a = alertc_assembler_step(unreached, SINGLE_101);
+    SAME(a.refusal, ALERTC_REFUSED_UNFIT);
+    SAME(a.kind, ALERTC_ANSWER_NOTHING);
+    SAME_STATE(a.next, unreached);
+}
+
+static void rds(void) {
+    /* PI 5201, type 8A, TP 1, PTY 21. */
+    const uint8_t bytes[ALERTC_RDS_GROUP_BYTES] = {0x52, 0x01, 0x86, 0xAB, 0x50, 0x65, 0x30, 0x39};
+    struct alertc_rds_reading r = alertc_rds_read(bytes, sizeof bytes);
+    SAME(r.refusal, ALERTC_ACCEPTED);
+    SAME(r.group.pi, 0x5201);
+    SAME(r.group.tp, 1);
+    SAME(r.group.pty, 21);
+    SAME(r.group.word, SINGLE_101);
+    SAME(alertc_rds_read(bytes, 7).refusal, ALERTC_REFUSED_LENGTH);
+    SAME(alertc_rds_read(bytes, 7).group.word, 0);
+
+    uint8_t out[ALERTC_RDS_GROUP_BYTES + 1];
+    TOUCH_NONE(out);
+    SAME(alertc_rds_write(r.group, out, sizeof out), ALERTC_ACCEPTED);
+    SAME_BYTES(out, bytes, sizeof bytes);
+    REST_UNTOUCHED(out, sizeof bytes);
+    TOUCH_NONE(out);
+    SAME(alertc_rds_write(r.group, out, 7), ALERTC_REFUSED_BUFFER);
+    struct alertc_rds_group unfit = r.group;
+    unfit.pty = 32;
+    SAME(alertc_rds_write(unfit, out, sizeof out), ALERTC_REFUSED_UNFIT);
+    REST_UNTOUCHED(out, 0);
+
+    const uint8_t other[ALERTC_RDS_GROUP_BYTES] = {0x52, 0x01, 0x96, 0xAB, 0x50, 0x65, 0x30, 0x39};
+    SAME(alertc_rds_read(other, sizeof other).refusal, ALERTC_REFUSED_TYPE);
+
+    /* A word is valid at the second of two, once. A refusal leaves the run. */
+    struct alertc_rds_run run = ALERTC_RDS_RUN_INIT;
+    struct alertc_rds_received v = alertc_rds_receive(run, bytes, sizeof bytes);
+    SAME(v.refusal, ALERTC_ACCEPTED);
+    SAME(v.valid, 0);
+    SAME(v.word, 0);
+    SAME(v.run.word, SINGLE_101);
+    SAME(v.run.count, 1);
+    v = alertc_rds_receive(v.run, other, sizeof other);
+    SAME(v.refusal, ALERTC_REFUSED_TYPE);
+    SAME(v.run.word, SINGLE_101);
+    SAME(v.run.count, 1);
+    v = alertc_rds_receive(v.run, bytes, 7);
+    SAME(v.refusal, ALERTC_REFUSED_LENGTH);
+    v = alertc_rds_receive(v.run, bytes, sizeof bytes);
+    SAME(v.refusal, ALERTC_ACCEPTED);
+    SAME(v.valid, 1);
+    SAME(v.word, SINGLE_101);
+    SAME(v.run.word, SINGLE_101);
+    SAME(v.run.count, 2);
+    v = alertc_rds_receive(v.run, bytes, sizeof bytes);
+    SAME(v.valid, 0);
+    SAME(v.word, 0);
+    SAME(v.run.count, 2);
+    run.count = 3;
+    run.word = 5;
+    v = alertc_rds_receive(run, bytes, sizeof bytes);
+    SAME(v.refusal, ALERTC_REFUSED_UNFIT);
+    SAME(v.run.count, 3);
+    SAME(v.run.word, 5);
+}
+
+static void fig(void) {
+    const uint8_t bytes[] = {0xAB, 0x09, 0x14, 0x4C, 0x88, 0x0F,
+                             0xA0, 0x90, 0xD4, 0x08, 0x00, 0x00};
+    uint64_t words[ALERTC_FIG_SYSTEM_WORDS];
+    uint8_t out[ALERTC_FIG_BYTES];
+    TOUCH_NONE(words);
+    struct alertc_fig_reading r =
+        alertc_fig_read(bytes, sizeof bytes, words, ALERTC_FIG_SYSTEM_WORDS);
+    SAME(r.refusal, ALERTC_ACCEPTED);
+    SAME(r.fig.d1, 0);
+    SAME(r.fig.tcid, 1);
+    SAME(r.count, 2);
+    SAME(words[0], FIRST_401);
+    SAME(words[1], LATER_401);
+    REST_UNTOUCHED(words, 2);
+    TOUCH_NONE(out);
+    struct alertc_written w = alertc_fig_write(r.fig, words, r.count, out, sizeof out);
+    SAME(w.refusal, ALERTC_ACCEPTED);
+    SAME(w.count, sizeof bytes);
+    SAME_BYTES(out, bytes, sizeof bytes);
+    REST_UNTOUCHED(out, sizeof bytes);
+    TOUCH_NONE(out);
+    SAME(alertc_fig_write(r.fig, words, r.count, out, sizeof bytes - 1).refusal,
+         ALERTC_REFUSED_BUFFER);
+    SAME(alertc_fig_write(r.fig, words, 0, out, sizeof out).refusal, ALERTC_REFUSED_UNFIT);
+    SAME(alertc_fig_write(r.fig, words, 0, out, sizeof out).count, 0);
+    REST_UNTOUCHED(out, 0);
+
+    TOUCH_NONE(words);
+    r = alertc_fig_read(bytes, sizeof bytes, words, 1);
+    SAME(r.refusal, ALERTC_REFUSED_BUFFER);
+    SAME(r.count, 0);
+    SAME(r.fig.tcid, 0);
+    SAME(alertc_fig_read(bytes, sizeof bytes - 1, words, ALERTC_FIG_SYSTEM_WORDS).refusal,
+         ALERTC_REFUSED_LENGTH);
+    REST_UNTOUCHED(words, 0);
+
+    const uint8_t system_fig[] = {0xA3, 0xA9, 0x04, 0x66};
+    r = alertc_fig_read(system_fig, sizeof system_fig, words, ALERTC_FIG_SYSTEM_WORDS);
+    SAME(r.refusal, ALERTC_ACCEPTED);
+    SAME(r.fig.d1, 1);
+    SAME(r.fig.tcid, 5);
+    SAME(r.count, 1);
+    SAME(words[0], 0x0466);
+    TOUCH_NONE(out);
+    SAME(alertc_fig_write(r.fig, words, 1, out, sizeof out).count, sizeof system_fig);
+    SAME_BYTES(out, system_fig, sizeof system_fig);
+}
+
+static void drm(void) {
+    /* TMCHI 0, Short ID 5, a word. */
+    const uint8_t headless[ALERTC_DRM_UNIT_MIN_BYTES] = {0x15, 0x6A, 0x0C, 0xA6,
+                                                         0x07, 0x20, 0x0A, 0xE3};
+    /* TMCHI 1, Short ID 9, 3 services, country 12, ECC E2, LTO -5, two system words, two words. */
+    const uint8_t headed[] = {0xA4, 0x3C, 0xE2, 0x96, 0x04, 0x66, 0x69, 0x5E, 0x14, 0x4C,
+                              0x88, 0x0F, 0xA0, 0x90, 0xD4, 0x08, 0x00, 0x00, 0xAA, 0x8F};
+    uint64_t words[ALERTC_DRM_UNIT_WORDS];
+    uint8_t out[ALERTC_DRM_UNIT_BYTES];
+    TOUCH_NONE(words);
+    struct alertc_drm_reading r =
+        alertc_drm_read(headless, sizeof headless, words, ALERTC_DRM_UNIT_WORDS);
+    SAME(r.refusal, ALERTC_ACCEPTED);
+    SAME(r.count, 1);
+    SAME(words[0], SINGLE_101);
+    REST_UNTOUCHED(words, 1);
+    SAME(r.unit.tmchi, 0);
+    SAME(r.unit.short_id, 5);
+    SAME(r.unit.services | r.unit.country | r.unit.ecc | r.unit.lto | r.unit.system_count, 0);
+    TOUCH_NONE(out);
+    struct alertc_written w = alertc_drm_write(r.unit, words, 1, out, sizeof out);
+    SAME(w.refusal, ALERTC_ACCEPTED);
+    SAME(w.count, sizeof headless);
+    SAME_BYTES(out, headless, sizeof headless);
+    REST_UNTOUCHED(out, sizeof headless);
+
+    TOUCH_NONE(words);
+    r = alertc_drm_read(headed, sizeof headed, words, ALERTC_DRM_UNIT_WORDS);
+    SAME(r.refusal, ALERTC_ACCEPTED);
+    SAME(r.count, 2);
+    SAME(words[0], FIRST_401);
+    SAME(words[1], LATER_401);
+    REST_UNTOUCHED(words, 2);
+    SAME(r.unit.tmchi, 1);
+    SAME(r.unit.short_id, 9);
+    SAME(r.unit.services, 3);
+    SAME(r.unit.country, 12);
+    SAME(r.unit.ecc, 0xE2);
+    SAME(r.unit.lto, -5);
+    SAME(r.unit.system_count, 2);
+    SAME(r.unit.system_words[0], 0x0466);
+    SAME(r.unit.system_words[1], 0x695E);
+    SAME(r.unit.system_words[2], 0);
+    TOUCH_NONE(out);
+    w = alertc_drm_write(r.unit, words, 2, out, sizeof out);
+    SAME(w.count, sizeof headed);
+    SAME_BYTES(out, headed, sizeof headed);
+    REST_UNTOUCHED(out, sizeof headed);
+    TOUCH_NONE(out);
+    SAME(alertc_drm_write(r.unit, words, 1, out, sizeof out).refusal,
+         ALERTC_REFUSED_UNFIT); /* the message stays open */
+    SAME(alertc_drm_write(r.unit, words, 2, out, sizeof headed - 1).refusal, ALERTC_REFUSED_BUFFER);
+    REST_UNTOUCHED(out, 0);
+
+    TOUCH_NONE(words);
+    r = alertc_drm_read(headed, sizeof headed, words, 1);
+    SAME(r.refusal, ALERTC_REFUSED_BUFFER);
+    SAME(r.count | r.unit.short_id, 0);
+    SAME(alertc_drm_read(headed, 9, words, ALERTC_DRM_UNIT_WORDS).refusal, ALERTC_REFUSED_CRC);
+    SAME(alertc_drm_read(headed, 7, words, ALERTC_DRM_UNIT_WORDS).refusal, ALERTC_REFUSED_LENGTH);
+    REST_UNTOUCHED(words, 0);
+
+    SAME(alertc_check_word((const uint8_t *)"123456789", 9),
+         0xD64E); /* published (CRC-16/GENIBUS) */
+}
+
+enum { PLACES = 2 };
+
+static void table(void) {
+    static uint16_t catalogue[ALERTC_EVENTS];
+    uint16_t lives[ALERTC_LIVES] = {0};
+    const struct alertc_service service = {1, 17, 37};
+    const struct alertc_report none = ALERTC_REPORT_INIT;
+    uint8_t bytes[PLACES * ALERTC_RECORD_BYTES] = {0};
+    uint32_t clock = 0;
+    catalogue[100] = ALERTC_CATALOGUE_ENTRY(1, 2, 0);
+    catalogue[101] = ALERTC_CATALOGUE_ENTRY(1, 1, 0);
+    catalogue[401] = ALERTC_CATALOGUE_ENTRY(5, 1, 1);
+    lives[3] = 60;
+
+    /* Life 60; then life 0, which ends at midnight: local time is an hour ahead. */
+    const uint8_t records[PLACES * ALERTC_RECORD_BYTES] = {
+        1,    1,    37, 17, 0x39, 0x30, 101,  0, 1, 2, 0, 3, 160,  0,    0, 0,
+        0,    0,    0,  0,  0,    0,    0,    0, 0, 0, 0, 0, 0,    0,    1, 1,
+        1,    2,    37, 17, 0xF4, 0x01, 0x91, 1, 0, 1, 0, 2, 0x64, 0x05, 0, 0,
+        0x35, 0x02, 0,  0,  0,    0,    0,    0, 0, 0, 0, 0, 0,    0,    5, 1};
+    struct alertc_table_answer t =
+        alertc_table_take(bytes, sizeof bytes, catalogue, ALERTC_EVENTS, lives, ALERTC_LIVES,
+                          &clock, report_101(), service, 100, 0);
+    SAME(t.refusal, ALERTC_ACCEPTED);
+    SAME(t.stored, 1);
+    SAME(t.place, 0);
+    SAME(t.expired, 0);
+    SAME(t.matched, 0);
+    SAME(clock, 100);
+    t = alertc_table_take(bytes, sizeof bytes, catalogue, ALERTC_EVENTS, lives, ALERTC_LIVES,
+                          &clock, report_401(), service, 100, 2);
+    SAME(t.stored, 1);
+    SAME(t.place, 1);
+    SAME_BYTES(bytes, records, sizeof bytes);
+
+    struct alertc_table_reading r = alertc_table_read(bytes, sizeof bytes, 1);
+    SAME(r.refusal, ALERTC_ACCEPTED);
+    SAME(r.used, 1);
+    SAME_REPORT(r.report, report_401());
+    SAME(r.service.country, 1);
+    SAME(r.service.ltn, 17);
+    SAME(r.service.sid, 37);
+    SAME(r.expiry, 1380);
+    SAME(alertc_table_read(bytes, sizeof bytes, PLACES).refusal, ALERTC_REFUSED_UNFIT);
+    SAME(alertc_table_read(bytes, sizeof bytes - 1, 0).refusal, ALERTC_REFUSED_MALFORMED);
+
+    /* Refusals leave the table and the clock. */
+    struct alertc_report unknown = report_101(), foreign = report_101(), other = report_101(),
+                         elsewhere = report_101();
+    struct alertc_service unfit = service;
+    unknown.event = 102;
+    foreign.location = ALERTC_FOREIGN_LOCATION;
+    other.form = 2;
+    elsewhere.location = 0xFBFF;
+    unfit.sid = 64;
+    SAME(alertc_table_take(bytes, sizeof bytes, catalogue, ALERTC_EVENTS - 1, lives, ALERTC_LIVES,
+                           &clock, report_101(), service, 101, 0)
+             .refusal,
+         ALERTC_REFUSED_MALFORMED);
+    SAME(alertc_table_take(bytes, sizeof bytes, catalogue, ALERTC_EVENTS, lives, ALERTC_LIVES - 1,
+                           &clock, report_101(), service, 101, 0)
+             .refusal,
+         ALERTC_REFUSED_MALFORMED);
+    SAME(alertc_table_take(bytes, sizeof bytes, catalogue, ALERTC_EVENTS, lives, ALERTC_LIVES,
+                           &clock, other, service, 101, 0)
+             .refusal,
+         ALERTC_REFUSED_UNFIT);
+    SAME(alertc_table_take(bytes, sizeof bytes, catalogue, ALERTC_EVENTS, lives, ALERTC_LIVES,
+                           &clock, report_101(), unfit, 101, 0)
+             .refusal,
+         ALERTC_REFUSED_UNFIT);
+    SAME(alertc_table_take(bytes, sizeof bytes, catalogue, ALERTC_EVENTS, lives, ALERTC_LIVES,
+                           &clock, report_101(), service, 101, -32)
+             .refusal,
+         ALERTC_REFUSED_UNFIT);
+    SAME(alertc_table_take(bytes, sizeof bytes, catalogue, ALERTC_EVENTS, lives, ALERTC_LIVES,
+                           &clock, report_101(), service, 99, 0)
+             .refusal,
+         ALERTC_REFUSED_MINUTE);
+    SAME(alertc_table_take(bytes, sizeof bytes, catalogue, ALERTC_EVENTS, lives, ALERTC_LIVES,
+                           &clock, foreign, service, 101, 0)
+             .refusal,
+         ALERTC_REFUSED_LOCATION);
+    SAME(alertc_table_take(bytes, sizeof bytes, catalogue, ALERTC_EVENTS, lives, ALERTC_LIVES,
+                           &clock, unknown, service, 101, 0)
+             .refusal,
+         ALERTC_REFUSED_EVENT);
+    t = alertc_table_take(bytes, sizeof bytes, catalogue, ALERTC_EVENTS, lives, ALERTC_LIVES,
+                          &clock, elsewhere, service, 101, 0);
+    SAME(t.refusal, ALERTC_REFUSED_NO_ROOM);
+    SAME(t.stored | t.place | t.expired | t.matched, 0);
+    SAME(alertc_table_expire(bytes, sizeof bytes, &clock, 99).refusal, ALERTC_REFUSED_MINUTE);
+    SAME(alertc_table_expire(bytes, sizeof bytes, &clock, ALERTC_LARGEST_MINUTE + 1).refusal,
+         ALERTC_REFUSED_MINUTE);
+    SAME(clock, 100);
+    SAME_BYTES(bytes, records, sizeof bytes);
+
+    /* An expiry of 160 stays at 159 and goes at 160. A cancelling event frees what it matches and
+     * is not stored. */
+    t = alertc_table_expire(bytes, sizeof bytes, &clock, 159);
+    SAME(t.refusal, ALERTC_ACCEPTED);
+    SAME(t.expired, 0);
+    SAME_BYTES(bytes, records, sizeof bytes);
+    struct alertc_report cancelling = report_101();
+    cancelling.event = 100;
+    uint8_t copy[PLACES * ALERTC_RECORD_BYTES];
+    uint32_t copy_clock = clock;
+    memcpy(copy, bytes, sizeof copy);
+    t = alertc_table_take(copy, sizeof copy, catalogue, ALERTC_EVENTS, lives, ALERTC_LIVES,
+                          &copy_clock, cancelling, service, 159, 0);
+    SAME(t.refusal, ALERTC_ACCEPTED);
+    SAME(t.matched, 1);
+    SAME(t.stored, 0);
+    SAME(alertc_table_read(copy, sizeof copy, 0).used, 0);
+    t = alertc_table_expire(bytes, sizeof bytes, &clock, 160);
+    SAME(t.expired, 1);
+    SAME(t.matched | t.stored | t.place, 0);
+    SAME(clock, 160);
+    r = alertc_table_read(bytes, sizeof bytes, 0);
+    SAME(r.refusal, ALERTC_ACCEPTED);
+    SAME(r.used, 0);
+    SAME(r.expiry, 0);
+    SAME_REPORT(r.report, none);
+
+    SAME(alertc_expiry(0, 0, 0), 1440);
+    SAME(alertc_expiry(0, 2, 0), 1380);
+    SAME(alertc_expiry(0, -1, 0), 30);
+    SAME(alertc_expiry(ALERTC_LARGEST_MINUTE, -31, ALERTC_LONGEST_LIFE), UINT64_C(4000010080));
+}
+
+/* Every refusal has a text of its own. */
+static void texts(void) {
+    SAME(strcmp(alertc_refusal_text(ALERTC_REFUSED_LENGTH), "wrong length"), 0);
+    SAME(strcmp(alertc_refusal_text(ALERTC_REFUSED_OUT_OF_TURN), "later group out of turn"), 0);
+    SAME(strcmp(alertc_refusal_text(ALERTC_REFUSED_BUFFER), "lent buffer too small"), 0);
+    for (unsigned i = 0; i <= ALERTC_REFUSED_BUFFER + 1; i++) {
+        for (unsigned k = 0; k < i; k++) {
+            SAME(strcmp(alertc_refusal_text(i), alertc_refusal_text(k)) == 0, 0);
+        }
+    }
+}
+
+int main(void) {
+    words();
+    system_words();
+    reports();
+    assembler();
+    rds();
+    fig();
+    drm();
+    table();
+    texts();
+    printf("%u compared, %u differ\n", compared, differing);
+    return differing != 0;
+}

@@ -1,0 +1,4 @@
+pub mod Words
+pub mod Reports
+pub mod Carriers
+pub mod Tables

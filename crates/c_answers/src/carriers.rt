@@ -1,0 +1,164 @@
+// RDS groups, FIGs and data units.
+ghost use mathlib.Core.Path.{_≡_};
+ghost use Rattle.c_answers.specs.Carriers.{groupReading, writeRefusal, receivedBy, figReading, figWritten, unitReading, unitWritten};
+use crate::reports::Written;
+use c_values::runs::PlainRun;
+use drm::DataUnit;
+use fig::Fig;
+use rds::Answer;
+use rds::Group;
+use rds::Step;
+
+// A group read.
+#[repr(C)]
+pub struct GroupReading {
+    pub group: Group,
+    pub refusal: u8,
+}
+
+impl GroupReading {
+    pub fn of(reading: rds::Reading) -> Self
+        ensures { λ r. ⌜ r ≡ groupReading reading ⌝ }
+    {
+        match reading {
+            rds::Reading::Taken(group) => GroupReading { group, refusal: 0 },
+            rds::Reading::Refused(refusal) => GroupReading {
+                group: Group {
+                    pi: 0,
+                    tp: 0,
+                    pty: 0,
+                    word: 0,
+                },
+                refusal,
+            },
+        }
+    }
+}
+
+pub fn write_refusal(writing: rds::Writing) -> u8
+    ensures { λ n. ⌜ n ≡ writeRefusal writing ⌝ }
+{
+    match writing {
+        rds::Writing::Done => 0,
+        rds::Writing::Refused(n) => n,
+    }
+}
+
+// The run after a group, on a refusal too; whether the group gave a valid word (1, else 0), and the word.
+#[repr(C)]
+pub struct Received {
+    pub run: PlainRun,
+    pub word: u64,
+    pub valid: u8,
+    pub refusal: u8,
+}
+
+impl Received {
+    pub fn of(step: Step) -> Self
+        ensures { λ r. ⌜ r ≡ receivedBy step ⌝ }
+    {
+        let next = step.run;
+        let answer = step.answer;
+        let mut r = Received {
+            run: PlainRun::of(next),
+            word: 0,
+            valid: 0,
+            refusal: 0,
+        };
+        match answer {
+            Answer::Nothing => r,
+            Answer::Valid(word) => {
+                r.valid = 1;
+                r.word = word;
+                r
+            }
+            Answer::Refused(n) => {
+                r.refusal = n;
+                r
+            }
+        }
+    }
+}
+
+// A FIG read, and how many words it carries.
+#[repr(C)]
+pub struct FigReading {
+    pub count: usize,
+    pub fig: Fig,
+    pub refusal: u8,
+}
+
+impl FigReading {
+    pub fn of(reading: fig::Reading) -> Self
+        ensures { λ r. ⌜ r ≡ figReading reading ⌝ }
+    {
+        match reading {
+            fig::Reading::Taken { fig, count } => FigReading {
+                count,
+                fig,
+                refusal: 0,
+            },
+            fig::Reading::Refused(refusal) => FigReading {
+                count: 0,
+                fig: Fig { d1: 0, tcid: 0 },
+                refusal,
+            },
+        }
+    }
+}
+
+pub fn fig_written(writing: fig_write::Writing) -> Written
+    ensures { λ r. ⌜ r ≡ figWritten writing ⌝ }
+{
+    match writing {
+        fig_write::Writing::Written(count) => Written { count, refusal: 0 },
+        fig_write::Writing::Refused(refusal) => Written { count: 0, refusal },
+    }
+}
+
+// A data unit read, and how many words it carries.
+#[repr(C)]
+pub struct UnitReading {
+    pub count: usize,
+    pub unit: DataUnit,
+    pub refusal: u8,
+}
+
+impl UnitReading {
+    pub fn of(reading: drm::Reading) -> Self
+        ensures { λ r. ⌜ r ≡ unitReading reading ⌝ }
+    {
+        match reading {
+            drm::Reading::Taken { unit, count } => UnitReading {
+                count,
+                unit,
+                refusal: 0,
+            },
+            drm::Reading::Refused(refusal) => UnitReading {
+                count: 0,
+                unit: DataUnit {
+                    tmchi: 0,
+                    id: 0,
+                    services: 0,
+                    country: 0,
+                    ecc: 0,
+                    lto: 0,
+                    system: 0,
+                    first: 0,
+                    second: 0,
+                    third: 0,
+                },
+                refusal,
+            },
+        }
+    }
+}
+
+pub fn unit_written(writing: drm_write::Writing) -> Written
+    ensures { λ r. ⌜ r ≡ unitWritten writing ⌝ }
+{
+    match writing {
+        drm_write::Writing::Written(count) => Written { count, refusal: 0 },
+        drm_write::Writing::Refused(refusal) => Written { count: 0, refusal },
+    }
+}

@@ -1,0 +1,91 @@
+// The message table.
+ghost use mathlib.Core.Path.{_≡_};
+ghost use Rattle.c_answers.specs.Tables.{tableAnswer, recordReading};
+use c_values::reports::PlainReport;
+use record::Reading;
+use record::Service;
+use table::Answer;
+
+// How many records expired and matched, whether the report was stored (1, else 0), and its place.
+#[repr(C)]
+pub struct TableAnswer {
+    pub expired: usize,
+    pub matched: usize,
+    pub place: usize,
+    pub stored: u8,
+    pub refusal: u8,
+}
+
+impl TableAnswer {
+    pub fn of(answer: Answer) -> Self
+        ensures { λ r. ⌜ r ≡ tableAnswer answer ⌝ }
+    {
+        let mut r = TableAnswer {
+            expired: 0,
+            matched: 0,
+            place: 0,
+            stored: 0,
+            refusal: 0,
+        };
+        match answer {
+            Answer::Freed { expired, matched } => {
+                r.expired = expired;
+                r.matched = matched;
+                r
+            }
+            Answer::Stored {
+                expired,
+                matched,
+                place,
+            } => {
+                r.expired = expired;
+                r.matched = matched;
+                r.place = place;
+                r.stored = 1;
+                r
+            }
+            Answer::Refused(n) => {
+                r.refusal = n;
+                r
+            }
+        }
+    }
+}
+
+// A record's report, service and expiry; whether it is in use (1, else 0).
+#[repr(C)]
+pub struct RecordReading {
+    pub report: PlainReport,
+    pub service: Service,
+    pub expiry: u32,
+    pub used: u8,
+    pub refusal: u8,
+}
+
+impl RecordReading {
+    pub fn of(reading: Reading) -> Self
+        ensures { λ r. ⌜ r ≡ recordReading reading ⌝ }
+    {
+        let report = reading.report;
+        let service = reading.service;
+        let answer = reading.answer;
+        let mut r = RecordReading {
+            report: PlainReport::of(report),
+            service,
+            expiry: reading.expiry,
+            used: 0,
+            refusal: 0,
+        };
+        match answer {
+            record::Answer::Free => r,
+            record::Answer::Read => {
+                r.used = 1;
+                r
+            }
+            record::Answer::Refused(n) => {
+                r.refusal = n;
+                r
+            }
+        }
+    }
+}

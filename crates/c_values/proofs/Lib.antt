@@ -1,0 +1,5 @@
+pub mod ReportsBack
+pub mod StatesBack
+pub mod RunsBack
+pub mod WordsBack
+pub mod Whose

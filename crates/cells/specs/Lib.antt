@@ -1,4 +1,0 @@
-pub mod Written
-pub mod Ranges
-pub mod Reports
-pub mod Assemblers

@@ -1,5 +1,0 @@
-// Values as lists of numbers, as the calls for C lend and hand them over.
-// These are inner calls: each asks of its caller that there are as many cells as it reads or writes.
-pub mod array;
-pub mod assemblers;
-pub mod reports;
