@@ -1,358 +1,216 @@
-//! Times the proved library beside the second program: the same calls on the same numbers and
+//! Times the proved library beside the second program: the same calls on the same structs and
 //! slices, the two in turn, the least of several repetitions.
 
 #![deny(warnings)]
 
-use std::fs::{self, File};
+use std::env;
 use std::hint::black_box;
+use std::io;
 use std::path::{Path, PathBuf};
-use std::process::{self, Command, ExitCode, Stdio};
-use std::time::{Duration, Instant};
-use std::{env, io};
+use std::process::ExitCode;
 
-use second::content::{Item, Items};
-use second::drm::{self, Unit};
-use second::fig::{self, Fig};
-use second::rds::Group;
-use second::recording::{self, Record};
-use second::report::{self, Report};
-use second::table;
-use second::word::Head;
+use input::{FIG, UNIT};
+use proved::{Assembler, AssemblerAnswer, RdsReceived, RdsRun, SystemFields, WordFields};
+use timing::{both, measure};
 
-const REPETITIONS: usize = 200;
-const LISTING_REPETITIONS: usize = 20;
+mod input;
+mod listings;
+mod tables;
+mod timing;
+
 const USAGE: &str = "bench [--listing PATH --listing2 PATH]";
 
-/// Least times of both sides.
-#[derive(Clone, Copy)]
-struct Times {
-    ours: Duration,
-    second: Duration,
+/// 37-bit words and system words, both ways.
+fn bench_words(words: &[u64]) {
+    both!("word parse", words, |word| side::word_parse(*word));
+    let parsed = words.iter().map(|&word| calls::word_parse(word));
+    let fields: Vec<WordFields> = parsed.map(|parsed| parsed.fields).collect();
+    both!("word compose", &fields, |fields| {
+        side::word_compose(*fields)
+    });
+    let words: Vec<u16> = (0..0x8000).collect();
+    both!("system word read", &words, |word| side::system_read(*word));
+    let read = words.iter().map(|&word| calls::system_read(word));
+    let fields: Vec<SystemFields> = read.map(|reading| reading.fields).collect();
+    both!("system word written", &fields, |fields| {
+        side::system_write(*fields)
+    });
 }
 
-impl Times {
-    /// Prints a line: nanoseconds for each of `count` pieces, and the ratio.
-    fn print(self, what: &str, count: usize) {
-        let each = |time: Duration| time.as_nanos() as f64 / count as f64;
-        println!(
-            "{what}: ours {:.1} ns, second {:.1} ns, ratio {:.2}",
-            each(self.ours),
-            each(self.second),
-            self.ours.as_secs_f64() / self.second.as_secs_f64()
-        );
+/// The carriers, reading friendly and rough input, and writing.
+fn bench_carriers(words: &[u64]) {
+    let groups = input::groups(words);
+    let rough = input::rough(&groups, &input::GROUP_FAULTS);
+    both!("RDS group", &groups, |group| side::rds_read(group));
+    both!("RDS group, one in four refused", &rough, |group| {
+        side::rds_read(group)
+    });
+    bench_receive("RDS group received", &groups);
+    bench_receive("RDS group received, one in four refused", &rough);
+    both!("RDS group written", words, |word| {
+        let mut out = [0; input::GROUP_BYTES];
+        (side::rds_write(input::group_of(*word), &mut out), out)
+    });
+
+    let figs = input::figs(words);
+    let rough = input::rough(&figs, &input::FIG_FAULTS);
+    for (what, figs) in [
+        ("FIG of 6 words", figs),
+        ("FIG of 6 words, one in four refused", rough),
+    ] {
+        both!(what, &figs, |fig| {
+            let mut words = [0; input::FIG_SYSTEM_WORDS];
+            (side::fig_read(fig, &mut words), words)
+        });
     }
-}
+    let sixes = words.as_chunks::<{ input::FIG_WORDS }>().0;
+    both!("FIG of 6 words written", sixes, |words| {
+        let mut out = [0; input::FIG_BYTES];
+        (side::fig_write(FIG, words, &mut out), out)
+    });
 
-fn time(call: &mut dyn FnMut()) -> Duration {
-    let start = Instant::now();
-    call();
-    start.elapsed()
-}
-
-fn measure(mut ours: impl FnMut(), mut second: impl FnMut()) -> Times {
-    let mut least = Times {
-        ours: Duration::MAX,
-        second: Duration::MAX,
-    };
-    for _ in 0..REPETITIONS {
-        least.ours = least.ours.min(time(&mut ours));
-        least.second = least.second.min(time(&mut second));
+    let unit_words = input::unit_words(2000);
+    let units = input::units(&unit_words);
+    let rough = input::rough(&units, &input::UNIT_FAULTS);
+    for (what, units) in [
+        ("DRM unit of 27 words", &units),
+        ("DRM unit of 27 words, one in four refused", &rough),
+    ] {
+        both!(what, units, |unit| {
+            let mut words = [0; input::UNIT_WORDS];
+            (side::drm_read(unit, &mut words), words)
+        });
     }
-    least
+    both!("DRM unit of 27 words written", &unit_words, |words| {
+        let mut out = [0; input::UNIT_BYTES];
+        (side::drm_write(UNIT, words, &mut out), out)
+    });
+    both!("check word of 128 bytes", &units, |unit| {
+        side::check_word(unit)
+    });
 }
 
-/// The words of messages: two multi-group ones of two to five groups to a single one.
-fn words(messages: u32) -> Vec<u64> {
-    let mut words = Vec::new();
-    for i in 0..messages {
-        let mut report = report_at(i as u16);
-        let mut index = 0;
-        if i % 3 > 0 {
-            report.multi = true;
-            report.duration = 0;
-            index = 1 + (i % 6) as u8;
-            let count = 1 + i as usize % 7;
-            report.items.count = count as u8;
-            let labels = [6, 9, 3, 10, 4, 5, 2];
-            for (place, label) in report.items.places.iter_mut().zip(&labels[..count]) {
-                *place = Item {
-                    label: *label,
-                    value: 1 + (i % 30) as u16,
-                };
+/// Each group twice, through the repeat rule.
+fn bench_receive(what: &str, groups: &[Vec<u8>]) {
+    type Receive = fn(RdsRun, &[u8]) -> RdsReceived;
+    let run = |receive: Receive| {
+        let receive = black_box(receive);
+        let mut run = RdsRun::default();
+        let mut valid = 0;
+        for group in groups {
+            for _ in 0..2 {
+                let received = receive(run, black_box(group));
+                run = received.run;
+                valid += u64::from(received.valid);
             }
         }
-        let mut out = [0; report::MOST_WORDS];
-        let count = report.write(index, &mut out).expect("a fit report");
-        words.extend(&out[..count]);
-    }
-    words
-}
-
-fn report_at(location: u16) -> Report {
-    Report {
-        multi: false,
-        head: Head {
-            direction: 1,
-            extent: 2,
-            event: 101,
-            location,
-        },
-        diversion: 0,
-        duration: 3,
-        items: Items::NONE,
-    }
-}
-
-fn groups(words: &[u64]) -> Vec<u8> {
-    let mut groups = vec![0; 8 * words.len()];
-    for (group, &word) in groups.chunks_mut(8).zip(words) {
-        let (pi, tp, pty) = (0x5201, 0, 9);
-        let written = Group { pi, tp, pty, word }.write(group);
-        written.expect("a fit group");
-    }
-    groups
-}
-
-fn bench_rds(words: &[u64]) {
-    type Read = fn(&[u8], &mut [u64]) -> u8;
-    let groups = groups(words);
-    let run = |read: Read| {
-        for group in groups.chunks_exact(8) {
-            let mut fields = [0; 4];
-            black_box(read(black_box(group), &mut fields));
-            black_box(fields);
-        }
+        black_box(valid);
     };
-    let ours = || run(proved::rds_read);
-    let second = || run(calls::rds_read);
-    measure(ours, second).print("RDS group", words.len());
+    measure(|| run(proved::rds_receive), || run(calls::rds_receive)).print(what, 2 * groups.len());
 }
 
-fn figs(words: &[u64]) -> Vec<Vec<u8>> {
-    let fig = Fig {
-        system: false,
-        tcid: 1,
-    };
-    let mut figs = Vec::new();
-    for words in words.chunks_exact(fig::MOST_WORDS) {
-        let mut out = [0; fig::MOST_BYTES];
-        let length = fig.write(words, &mut out).expect("a fit FIG");
-        figs.push(out[..length].to_vec());
-    }
-    figs
-}
-
-fn bench_fig(words: &[u64]) {
-    type Read = fn(&[u8], &mut [u64], &mut [u64], &mut usize) -> u8;
-    let figs = figs(words);
-    let run = |read: Read| {
-        for bytes in &figs {
-            let (mut fig, mut words, mut count) = ([0; 2], [0; 14], 0);
-            black_box(read(black_box(bytes), &mut fig, &mut words, &mut count));
-            black_box((fig, words, count));
-        }
-    };
-    let ours = || run(proved::fig_read);
-    let second = || run(calls::fig_read);
-    measure(ours, second).print("FIG of 6 words", figs.len());
-}
-
-/// Units of 27 words, of single-group messages.
-fn units(count: u16) -> Vec<Vec<u8>> {
-    let unit = Unit {
-        short_id: 5,
-        header: None,
-    };
-    let word = |i: u16| {
-        let mut out = [0];
-        let written = report_at(i).write(0, &mut out);
-        written.expect("a fit report");
-        out[0]
-    };
-    let mut units = Vec::new();
-    for i in 0..count {
-        let words: Vec<_> = (0..drm::MOST_WORDS as u16).map(|j| word(i + j)).collect();
-        let mut out = [0; drm::MOST_BYTES];
-        let length = unit.write(&[], &words, &mut out).expect("a fit unit");
-        units.push(out[..length].to_vec());
-    }
-    units
-}
-
-fn bench_drm() {
-    type Read = fn(&[u8], &mut [u64], &mut i8, &mut [u64], &mut usize) -> u8;
-    let units = units(2000);
-    let run = |read: Read| {
-        for bytes in &units {
-            let (mut unit, mut lto, mut words, mut count) = ([0; 9], 0, [0; drm::MOST_WORDS], 0);
-            let refusal = read(
-                black_box(bytes),
-                &mut unit,
-                &mut lto,
-                &mut words,
-                &mut count,
-            );
-            black_box((refusal, unit, lto, words, count));
-        }
-    };
-    let ours = || run(proved::drm_read);
-    let second = || run(calls::drm_read);
-    measure(ours, second).print("DRM unit of 27 words", units.len());
-}
-
-fn bench_assembler(words: &[u64]) {
-    type Step = fn(&mut [u64], u64, &mut [u64]) -> u8;
+fn bench_assembler(what: &str, words: &[u64]) {
+    type Step = fn(Assembler, u64) -> AssemblerAnswer;
     let run = |step: Step| {
-        let (mut state, mut answer) = ([0; 11], [0; 65]);
+        let step = black_box(step);
+        let mut state = Assembler::default();
         let mut reports = 0;
         for &word in words {
-            let refusal = step(&mut state, black_box(word), &mut answer);
-            reports += u64::from(refusal == 0 && answer[0] == 1);
-            black_box(&answer);
+            let answer = step(state, black_box(word));
+            state = answer.next;
+            reports += u64::from(answer.kind == 1);
+            black_box(&answer.report);
         }
         black_box(reports);
     };
-    let ours = || run(proved::assembler_step);
-    let second = || run(calls::assembler_step);
-    measure(ours, second).print("word through the assembler", words.len());
+    measure(
+        || run(proved::assembler_step),
+        || run(calls::assembler_step),
+    )
+    .print(what, words.len());
 }
 
-/// Takes into a table with one free record, each matching one record.
-fn bench_take(records: usize) -> Times {
-    const TAKES: usize = 20;
-    type Take = fn(&mut [u8], &mut u32, &proved::Taking, &mut [u64]) -> u8;
-    let mut catalogue = [0; table::EVENTS];
-    catalogue[101] = 1 << 6 | 5;
-    let lives = [60; table::LIVES];
-    // The refusal, and the numbers expired and matched.
-    let take_at = |take: Take, table: &mut [u8], location: u64| {
-        let mut report = [0; 64];
-        report[..7].copy_from_slice(&[0, 101, location, 1, 2, 0, 3]);
-        let taking = proved::Taking {
-            catalogue: &catalogue,
-            lives: &lives,
-            report: black_box(&report),
-            country: 13,
-            ltn: 17,
-            sid: 3,
-            minute: 1000,
-            lto: 2,
-        };
-        let (mut clock, mut answer) = (1000, [0; 4]);
-        let refusal = take(table, &mut clock, &taking, &mut answer);
-        (refusal, answer[0], answer[1])
-    };
-    let mut start = vec![0; table::RECORD * records];
-    for location in 0..records - 1 {
-        let taken = take_at(calls::table_take, &mut start, location as u64);
-        assert_eq!(taken, (0, 0, 0));
-    }
-    let run = |take: Take, table: &mut [u8]| {
-        for i in 0..TAKES {
-            let location = (i % (records - 1)) as u64;
-            assert_eq!(take_at(take, table, location), (0, 0, 1));
-        }
-    };
-    let (mut ours, mut other) = (start.clone(), start);
-    let take_ours = || run(proved::table_take, &mut ours);
-    let take_other = || run(calls::table_take, &mut other);
-    let times = measure(take_ours, take_other);
-    times.print(&format!("take at {records} records"), TAKES);
-    times
+fn bench_expiry() {
+    let lives: Vec<(u32, i8, u16)> = (0..10_000)
+        .map(|i| (i * 401, (i % 63) as i8 - 31, (i % 3 * 60) as u16))
+        .collect();
+    both!("expiry", &lives, |(minute, lto, life)| {
+        side::expiry(*minute, *lto, *life)
+    });
 }
 
-/// A recording of all three kinds.
-fn recording(words: &[u64]) -> Vec<u8> {
-    let mut out = Vec::new();
-    let mut add = |kind, body: &[u8]| {
-        let written = Record { kind, body }.write(&mut out);
-        written.expect("a fit record");
-    };
-    let (groups, figs, units) = (groups(words), figs(words), units(500));
-    for _ in 0..12 {
-        for group in groups.chunks_exact(8) {
-            add(recording::RDS, group);
-            add(recording::RDS, group);
-        }
-        for fig in &figs {
-            add(recording::FIG, fig);
-        }
-        for unit in &units {
-            add(recording::DRM, unit);
-        }
-    }
-    out
+fn bench_listings(words: &[u64], listing: &Path, listing2: &Path) -> io::Result<()> {
+    let (groups, figs) = (input::groups(words), input::figs(words));
+    let units = input::units(&input::unit_words(500));
+    let friendly = input::recording(&groups, &figs, &units);
+    let rough = input::recording(
+        &input::rough(&groups, &input::GROUP_FAULTS),
+        &input::rough(&figs, &input::FIG_FAULTS),
+        &input::rough(&units, &input::UNIT_FAULTS),
+    );
+    listings::bench("listing", &friendly, listing, listing2)?;
+    listings::bench(
+        "listing with losses and refusals",
+        &rough,
+        listing,
+        listing2,
+    )
 }
 
-fn list(program: &Path, recording: &Path) -> io::Result<()> {
-    let status = Command::new(program)
-        .stdin(File::open(recording)?)
-        .stdout(Stdio::null())
-        .status()?;
-    match status.success() {
-        true => Ok(()),
-        false => Err(io::Error::other(format!("{} failed", program.display()))),
-    }
+/// What the program is called for.
+enum Task {
+    Scan,
+    Times(Option<(PathBuf, PathBuf)>),
 }
 
-fn bench_listing(words: &[u64], listing: &Path, listing2: &Path) -> io::Result<()> {
-    let path = env::temp_dir().join(format!("bench-{}.recording", process::id()));
-    let bytes = recording(words);
-    fs::write(&path, &bytes)?;
-    let mut result = Ok(());
-    let mut run = |program| {
-        if let Err(error) = list(program, &path) {
-            result = Err(error);
-        }
-    };
-    let mut least = Times {
-        ours: Duration::MAX,
-        second: Duration::MAX,
-    };
-    for _ in 0..LISTING_REPETITIONS {
-        least.ours = least.ours.min(time(&mut || run(listing)));
-        least.second = least.second.min(time(&mut || run(listing2)));
-    }
-    fs::remove_file(&path)?;
-    result?;
-    let what = format!("listing of {} bytes, a byte", bytes.len());
-    least.print(&what, bytes.len());
-    Ok(())
-}
-
-/// The paths of the two listing programs, if given.
-fn programs() -> Option<Option<(PathBuf, PathBuf)>> {
+fn task() -> Option<Task> {
     let arguments: Vec<_> = env::args().skip(1).collect();
     match &arguments[..] {
-        [] => Some(None),
+        [] => Some(Task::Times(None)),
+        [scan] if scan == listings::SCAN => Some(Task::Scan),
         [one, listing, two, listing2] if one == "--listing" && two == "--listing2" => {
-            Some(Some((listing.into(), listing2.into())))
+            Some(Task::Times(Some((listing.into(), listing2.into()))))
         }
         _ => None,
     }
 }
 
-fn main() -> ExitCode {
-    let Some(programs) = programs() else {
-        eprintln!("{USAGE}");
-        return ExitCode::FAILURE;
-    };
-    let words = words(10_000);
-    bench_rds(&words);
-    bench_fig(&words);
-    bench_drm();
-    bench_assembler(&words);
-    let [_, small, large] = [64, 256, 1024].map(bench_take);
-    println!(
-        "a take's growth from 256 to 1024 records: ours {:.2}, second {:.2}",
-        large.ours.as_secs_f64() / small.ours.as_secs_f64(),
-        large.second.as_secs_f64() / small.second.as_secs_f64()
+fn bench(programs: Option<(PathBuf, PathBuf)>) -> io::Result<()> {
+    let reports = input::reports(10_000);
+    let words = input::words(&reports);
+    bench_words(&words);
+    bench_carriers(&words);
+    both!("report written", &reports, |(report, ci)| {
+        let mut words = [0; input::MESSAGE_WORDS];
+        (side::report_write(*report, *ci, &mut words), words)
+    });
+    bench_assembler("word through the assembler", &words);
+    bench_assembler(
+        "word through the assembler, with losses",
+        &input::rough_words(&words),
     );
-    if let Some((listing, listing2)) = programs {
-        if let Err(error) = bench_listing(&words, &listing, &listing2) {
-            println!("the listings could not be timed: {error}");
+    bench_expiry();
+    tables::bench();
+    match programs {
+        Some((listing, listing2)) => bench_listings(&words, &listing, &listing2),
+        None => Ok(()),
+    }
+}
+
+fn main() -> ExitCode {
+    let done = match task() {
+        Some(Task::Scan) => listings::scan_input(),
+        Some(Task::Times(programs)) => bench(programs),
+        None => {
+            eprintln!("{USAGE}");
             return ExitCode::FAILURE;
         }
+    };
+    match done {
+        Ok(()) => ExitCode::SUCCESS,
+        Err(error) => {
+            println!("the listings could not be timed: {error}");
+            ExitCode::FAILURE
+        }
     }
-    ExitCode::SUCCESS
 }

@@ -11,12 +11,16 @@ use random::Random;
 use tally::Tally;
 
 mod carriers;
+mod fields;
 mod listings;
 mod random;
+mod rds;
 mod reports;
 mod sender;
 mod tables;
 mod tally;
+mod transmissions;
+mod words;
 
 const SEED: u64 = 14819;
 const ROUNDS: u64 = 300;
@@ -41,6 +45,7 @@ impl Trial {
         times(300, Self::rds_read);
         times(200, Self::rds_write);
         times(40, Self::rds_receive);
+        times(20, Self::rds_copies);
         times(400, Self::report_write);
         times(40, Self::assembler_walk);
         times(600, Self::assembler_state);
@@ -106,7 +111,9 @@ fn main() -> ExitCode {
         random: Random::new(options.seed),
         tally: Tally::default(),
     };
-    (0..=u16::MAX).for_each(|word| trial.system_read(word));
+    (0..=u16::MAX).for_each(|word| {
+        trial.system_read(word);
+    });
     trial.fig_faults();
     trial.drm_faults();
     for _ in 0..options.rounds {

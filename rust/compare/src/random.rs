@@ -1,5 +1,36 @@
 //! Random numbers from a seed (splitmix64).
 
+/// A field of a struct.
+pub trait Number {
+    fn get(&self) -> u64;
+    /// Sets it to the low bits of `number`.
+    fn set(&mut self, number: u64);
+    fn width(&self) -> u32;
+}
+
+macro_rules! numbers {
+    ($($type:ty)*) => {$(
+        impl Number for $type {
+            fn get(&self) -> u64 {
+                *self as u64
+            }
+
+            fn set(&mut self, number: u64) {
+                *self = number as $type;
+            }
+
+            fn width(&self) -> u32 {
+                <$type>::BITS
+            }
+        }
+    )*};
+}
+
+numbers!(u8 i8 u16 u32 u64 usize);
+
+/// Bits after which some field's range ends, and the widths of the types.
+const ENDS: [u32; 15] = [1, 2, 3, 4, 5, 6, 7, 8, 11, 16, 28, 32, 36, 37, 63];
+
 pub struct Random(u64);
 
 impl Random {
@@ -20,8 +51,8 @@ impl Random {
         self.number() % limit
     }
 
-    /// A number below `limit`, for places and lengths.
-    pub fn place(&mut self, limit: usize) -> usize {
+    /// A number below `limit`, for indices and lengths.
+    pub fn index(&mut self, limit: usize) -> usize {
         self.below(limit as u64) as usize
     }
 
@@ -35,10 +66,24 @@ impl Random {
         }
     }
 
-    /// A byte of so many bits, now and then of all eight.
-    pub fn byte(&mut self, width: u32) -> u64 {
-        let width = if self.once_in(8) { 8 } else { width };
-        self.bits(width)
+    /// A number of at most eight bits, often at either end of its range.
+    pub fn byte(&mut self, width: u32) -> u8 {
+        self.bits(width) as u8
+    }
+
+    /// A number of at most sixteen bits, often at either end of its range.
+    pub fn short(&mut self, width: u32) -> u16 {
+        self.bits(width) as u16
+    }
+
+    /// A continuity index of a message.
+    pub fn ci(&mut self) -> u8 {
+        1 + self.below(6) as u8
+    }
+
+    /// A local time offset in its range.
+    pub fn lto(&mut self) -> i8 {
+        self.below(63) as i8 - 31
     }
 
     /// True once in `n` times.
@@ -47,35 +92,37 @@ impl Random {
     }
 
     pub fn pick<T: Copy>(&mut self, from: &[T]) -> T {
-        from[self.place(from.len())]
+        from[self.index(from.len())]
     }
 
-    /// A number that is out of most ranges, or near the end of one.
-    pub fn odd(&mut self, was: u64) -> u64 {
-        let shift = self.pick(&[3, 4, 6, 8, 11, 16, 28, 32, 37, 63]);
+    /// A number that is out of most ranges, or near the end of one, for a field of this width.
+    pub fn odd(&mut self, was: u64, width: u32) -> u64 {
+        let ends = ENDS.partition_point(|&end| end < width);
+        let end = 1 << self.pick(&ENDS[..ends]);
         match self.below(7) {
             0 => was.wrapping_add(1),
             1 => was.wrapping_sub(1),
-            2 => was.wrapping_add(1 << shift),
-            3 => 1 << shift,
-            4 => self.below(17),
+            2 => was.wrapping_add(end),
+            3 => end,
+            4 => self.below(40),
             5 => u64::MAX,
             _ => self.number(),
         }
     }
 
-    /// Sets one number to an odd one.
-    pub fn damage(&mut self, cells: &mut [u64]) {
-        let at = self.place(cells.len());
-        cells[at] = self.odd(cells[at]);
+    /// Sets one of these fields to an odd number.
+    pub fn damage(&mut self, mut fields: Vec<&mut dyn Number>) {
+        let at = self.index(fields.len());
+        let field = &mut fields[at];
+        field.set(self.odd(field.get(), field.width()));
     }
 
-    /// So many cells mostly, else fewer or more; at most two more.
-    pub fn room(&mut self, cells: usize) -> usize {
+    /// So many bytes mostly, else fewer or more; at most two more.
+    pub fn room(&mut self, bytes: usize) -> usize {
         if self.once_in(12) {
-            self.place(cells + 3)
+            self.index(bytes + 3)
         } else {
-            cells
+            bytes
         }
     }
 }

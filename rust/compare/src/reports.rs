@@ -1,45 +1,49 @@
-//! Reports, the assembler, and transmissions with losses (demand 3).
+//! Reports and the assembler.
 
-use crate::carriers::{CELL, COUNT};
-use crate::sender::{self, Head, Message};
+use crate::carriers::{filled, WORD};
+use crate::fields::Fields;
+use crate::sender::{self, Message, CONTENT_BITS, WORD_LIMIT};
 use crate::tally::Call;
 use crate::Trial;
-use calls as cells;
+use proved::{Assembler, AssemblerAnswer, Item, Report, Written, ITEMS};
 
 impl Trial {
-    /// The cells of a report and a continuity index, often unfit.
-    pub fn any_report(&mut self) -> Vec<u64> {
+    /// A report, often unfit.
+    pub fn any_report(&mut self) -> Report {
         let random = &mut self.random;
-        let mut report = Message::random(random).report.to_vec();
+        let mut report = Message::random(random).report;
         if !random.once_in(3) {
             return report;
         }
-        let count = report[7] as usize;
-        match random.below(7) {
-            0 => random.damage(&mut report[..8]),
-            1 => {
-                let used = 8 + 2 * count;
-                random.damage(&mut report[..used]);
+        let count = report.item_count;
+        match random.below(8) {
+            // One of the fields beside the items.
+            0 | 1 => {
+                let mut fields = report.fields();
+                fields.truncate(8);
+                random.damage(fields);
             }
-            2 => random.damage(&mut report),
-            3 => {
+            2 => {
+                let mut fields = report.fields();
+                fields.truncate(8 + 2 * count);
+                random.damage(fields);
+            }
+            3 => random.damage(report.fields()),
+            4 => {
                 // Up to 28 items of any length, so often over 112 bits.
-                let items: Vec<_> = (0..random.place(29))
+                let items: Vec<_> = (0..random.index(ITEMS + 1))
                     .map(|_| sender::random_item(random))
                     .collect();
-                report = Message::multi(Head::random(random), 1, &items[..0], 0)
-                    .report
-                    .to_vec();
-                report[7] = items.len() as u64;
-                for (cells, &(label, value)) in report[8..].chunks_mut(2).zip(&items) {
-                    cells.copy_from_slice(&[label, value]);
-                }
-                report[5] = items.contains(&(1, 5)).into();
-                report[6] = items.iter().find(|item| item.0 == 0).map_or(0, |i| i.1);
+                report = sender::multi_report(sender::random_head(random), &items);
             }
-            4 if count > 0 => report[6 + 2 * count..8 + 2 * count].fill(0),
-            5 if count > 0 => report[6 + 2 * count] = 15,
-            _ => report.truncate(random.place(cells::REPORT + 1)),
+            5 if count > 0 => report.items[count - 1] = Item::default(),
+            6 if count > 0 => report.items[count - 1].label = 15,
+            // An unused place.
+            _ if count < ITEMS => {
+                let place = count + random.index(ITEMS - count);
+                random.damage(report.items[place].fields());
+            }
+            _ => {}
         }
         report
     }
@@ -48,28 +52,27 @@ impl Trial {
         let plain = self.random.once_in(3);
         let (report, ci, meant) = if plain {
             let message = self.whole_message();
-            (message.report.to_vec(), message.ci as u8, message.words)
+            (message.report, message.ci, message.words)
         } else {
             let report = self.any_report();
-            let multi = report.first() == Some(&1);
-            let ci = match (self.random.once_in(8), multi) {
-                (true, _) => self.random.bits(8) as u8,
-                (_, true) => 1 + self.random.below(6) as u8,
-                (_, false) => 0,
+            let ci = match (self.random.once_in(8), report.form) {
+                (true, _) => self.random.byte(8),
+                (_, 0) => 0,
+                _ => self.random.ci(),
             };
             (report, ci, vec![])
         };
         let room = if self.random.once_in(4) {
-            self.random.place(6)
+            self.random.index(6)
         } else {
             6
         };
-        let entry = (vec![CELL; room], COUNT);
+        let entry = vec![WORD; room];
         let (mut a, mut b) = (entry.clone(), entry.clone());
-        let proved = proved::report_write(&report, ci, &mut a.0, &mut a.1);
-        let second = cells::report_write(&report, ci, &mut b.0, &mut b.1);
-        let input = (&report, ci, room);
-        self.tally.agree(
+        let proved = proved::report_write(report, ci, &mut a);
+        let second = calls::report_write(report, ci, &mut b);
+        let input = (report, ci, room);
+        self.tally.agree_lent(
             Call::ReportWrite,
             &input,
             &entry,
@@ -77,11 +80,24 @@ impl Trial {
             (second, &b),
         );
         if plain && room >= meant.len() {
-            let mut exit = entry.clone();
-            exit.0[..meant.len()].copy_from_slice(&meant);
-            exit.1 = meant.len();
+            let written = Written {
+                count: meant.len(),
+                refusal: 0,
+            };
+            let meant = (written, filled(&meant, room));
             self.tally
-                .expect(Call::ReportWrite, &input, (proved, a), (0, exit));
+                .expect(Call::ReportWrite, &input, (proved, a), meant);
+        }
+        let other_form = report.form > 1;
+        let beyond = report.item_count > ITEMS;
+        let mut unused = report.items.iter().skip(report.item_count);
+        let unused = unused.any(|&item| item != Item::default());
+        let tally = &mut self.tally;
+        tally.mark("report write: another form", other_form);
+        tally.mark("report write: 29 items or more", beyond);
+        tally.mark("report write: an unused place not 0", unused);
+        if other_form || beyond || unused {
+            tally.expect(Call::ReportWrite, &input, proved.refusal, 9);
         }
     }
 
@@ -91,51 +107,47 @@ impl Trial {
         if random.once_in(3) {
             return Message::single(random);
         }
-        let head = Head::random(random);
-        let ci = 1 + random.below(6);
-        let items = sender::random_items(random, 112);
+        let head = sender::random_head(random);
+        let ci = random.ci();
+        let items = sender::random_items(random, CONTENT_BITS);
         Message::multi(head, ci, &items, 0)
     }
 
-    /// One step on both sides; gives the refusal, the next state and the answer.
-    fn step(&mut self, state: Vec<u64>, word: u64, room: usize) -> (u8, Vec<u64>, Vec<u64>) {
-        let entry = (state, vec![CELL; room]);
-        let (mut a, mut b) = (entry.clone(), entry.clone());
-        let proved = proved::assembler_step(&mut a.0, word, &mut a.1);
-        let second = cells::assembler_step(&mut b.0, word, &mut b.1);
-        let input = (&entry.0, word, room);
-        self.tally.agree(
-            Call::AssemblerStep,
-            &input,
-            &entry,
-            (proved, &a),
-            (second, &b),
-        );
-        if matches!(proved, 5 | 7 | 8) {
-            let mut empty = entry.clone();
-            empty.0[..cells::ASSEMBLER].fill(0);
-            self.tally.expect(Call::AssemblerStep, &input, &a, &empty);
-        }
-        (proved, a.0, a.1)
+    /// One step on both sides. Refusals 5, 7 and 8 empty the state, the others keep it.
+    pub fn step(&mut self, state: Assembler, word: u64) -> AssemblerAnswer {
+        let proved = proved::assembler_step(state, word);
+        let second = calls::assembler_step(state, word);
+        let input = (state, word);
+        self.tally
+            .agree(Call::AssemblerStep, &input, proved, second);
+        let next = match proved.refusal {
+            0 => proved.next,
+            5 | 7 | 8 => Assembler::default(),
+            _ => state,
+        };
+        self.tally
+            .expect(Call::AssemblerStep, &input, proved.next, next);
+        proved
     }
 
     /// The next later group of the state's message, now and then not quite.
-    fn next_word(&mut self, state: &[u64], parts: &[u64]) -> u64 {
-        let (mut ci, mut gsi, count) = (state[1] & 7, state[6], state[7]);
+    fn next_word(&mut self, state: &Assembler, parts: &[u32]) -> u64 {
+        let (ci, gsi, count) = (state.ci, state.gsi, state.later_groups);
         let random = &mut self.random;
-        let mut mark = u64::from(count == 0);
-        gsi = if count == 0 {
-            random.below(4)
+        let mut ci = ci & 7;
+        let mut mark = u8::from(count == 0);
+        let mut gsi = if count == 0 {
+            random.below(4) as u8
         } else {
             gsi.wrapping_sub(1) & 3
         };
-        let mut content = parts.get(count as usize).copied().unwrap_or(0);
+        let mut content = parts.get(usize::from(count)).copied().unwrap_or(0);
         if random.once_in(10) {
             match random.below(4) {
-                0 => ci = 1 + random.below(6),
-                1 => gsi = random.below(4),
+                0 => ci = random.ci(),
+                1 => gsi = random.below(4) as u8,
                 2 => mark ^= 1,
-                _ => content = random.bits(28),
+                _ => content = random.bits(28) as u32,
             }
         }
         sender::later_word(ci, mark, gsi, content)
@@ -143,193 +155,81 @@ impl Trial {
 
     /// Calls from the empty state, each on the state that the last one gave.
     pub fn assembler_walk(&mut self) {
-        let mut state = vec![0; cells::ASSEMBLER];
+        let mut state = Assembler::default();
         let mut parts = vec![];
         for _ in 0..40 {
             let word = match self.random.below(10) {
                 0 => self.any_word(),
                 1 => Message::single(&mut self.random).words[0],
-                _ if state[0] == 1 && !self.random.once_in(10) => self.next_word(&state, &parts),
+                _ if state.ci > 0 && !self.random.once_in(10) => self.next_word(&state, &parts),
                 _ => {
-                    let items = sender::random_items(&mut self.random, 112);
+                    let items = sender::random_items(&mut self.random, CONTENT_BITS);
                     parts = sender::parts(&items);
-                    let ci = 1 + self.random.below(6);
-                    sender::first_word(ci, Head::random(&mut self.random))
+                    let ci = self.random.ci();
+                    sender::first_word(ci, sender::random_head(&mut self.random))
                 }
             };
-            let room = self.random.room(cells::ANSWER);
-            let (refusal, next, answer) = self.step(state, word, room);
-            let told = |cell: u64| refusal == 0 && answer[0] == cell;
-            let (report, tuning, administration) = (told(1), told(2), told(3));
-            let five = next[7] == 3;
-            self.tally.mark("assembler: a report", report);
-            self.tally.mark("assembler: a tuning word", tuning);
-            self.tally
-                .mark("assembler: an administration word", administration);
-            self.tally.mark("assembler: three later groups held", five);
-            let full = report && answer[8] == sender::MOST_ITEMS as u64;
-            self.tally.mark("assembler: 28 items", full);
-            state = next;
+            let answer = self.step(state, word);
+            let unfit = answer.refusal == 9;
+            self.tally.expect(
+                Call::AssemblerStep,
+                &(state, word),
+                unfit,
+                word >= WORD_LIMIT,
+            );
+            let tally = &mut self.tally;
+            tally.mark("assembler: a report", answer.kind == 1);
+            tally.mark("assembler: a tuning word", answer.kind == 2);
+            tally.mark("assembler: an administration word", answer.kind == 3);
+            let three = answer.next.later_groups == 3;
+            tally.mark("assembler: three later groups taken", three);
+            let full = answer.report.item_count == ITEMS;
+            tally.mark("assembler: 28 items", full);
+            state = answer.next;
         }
     }
 
     /// One call on a state that calls may or may not reach.
     pub fn assembler_state(&mut self) {
         let random = &mut self.random;
-        let items = sender::random_items(random, 112);
+        let items = sender::random_items(random, CONTENT_BITS);
         let parts = sender::parts(&items);
-        let head = Head::random(random);
         let (count, gsi) = match random.below(3) {
-            0 => (random.below(5), random.below(5)),
+            0 => (random.below(5) as u8, random.below(5) as u8),
             _ => random.pick(&[(0, 0), (1, 1), (1, 2), (1, 3), (2, 1), (2, 2), (3, 1)]),
         };
-        let mut state = vec![
-            1,
-            1 + random.below(6),
-            head.direction,
-            head.extent,
-            head.event,
-            head.location,
-            gsi,
-            count,
-        ];
-        for i in 0..3 {
+        let part = |i: usize| {
             let part = parts.get(i).copied().unwrap_or(0);
-            state.push(if (i as u64) < count { part } else { 0 });
-        }
+            if i < usize::from(count) {
+                part
+            } else {
+                0
+            }
+        };
+        let mut state = Assembler {
+            ci: random.ci(),
+            first_group: sender::random_head(random),
+            gsi,
+            later_groups: count,
+            contents: [part(0), part(1), part(2)],
+        };
         if random.once_in(10) {
-            state.fill(0);
+            state = Assembler::default();
         }
         if random.once_in(3) {
-            random.damage(&mut state);
+            random.damage(state.fields());
         }
-        if random.once_in(20) {
-            state[0] = 0;
-        }
-        if random.once_in(20) {
-            state.resize(random.place(cells::ASSEMBLER + 3), 0);
-        }
-        let word = if state.len() >= 8 && !random.once_in(3) {
-            self.next_word(&state, &parts)
-        } else {
+        let word = if random.once_in(3) {
             self.any_word()
+        } else {
+            self.next_word(&state, &parts)
         };
-        let room = self.random.room(cells::ANSWER);
-        self.step(state, word, room);
-    }
-
-    /// Demand 3: a transmission of well-formed messages with bearable losses.
-    pub fn transmission(&mut self) {
-        let sent = self.messages();
-        let groups: Vec<_> = (0..)
-            .zip(&sent)
-            .flat_map(|(i, message)| message.words.iter().map(move |&word| (i, word)))
-            .collect();
-        let lost = self.losses(&sent, &groups);
-        let whole = |i: usize| {
-            let mut of_message = groups.iter().zip(&lost).filter(|((m, _), _)| *m == i);
-            !of_message.any(|(_, &lost)| lost)
-        };
-        let due: Vec<_> = (0..sent.len())
-            .filter(|&i| whole(i))
-            .map(|i| sent[i].report.to_vec())
-            .collect();
-        let inside = (0..sent.len()).any(|i| {
-            let of_message = groups.iter().zip(&lost).filter(|((m, _), _)| *m == i);
-            let lost: Vec<_> = of_message.map(|(_, &lost)| lost).collect();
-            lost.contains(&true) && lost.contains(&false)
-        });
+        let answer = self.step(state, word);
+        let unreached = answer.refusal == 9 && word < WORD_LIMIT;
+        let no_index = unreached && state.ci == 0;
         self.tally
-            .mark("transmission: a loss inside a message", inside);
-
-        let other = self.random.pick(&[0, 3, 10]);
-        let mut state = vec![0; cells::ASSEMBLER];
-        let mut reports = vec![];
-        for (&(_, word), &lost) in groups.iter().zip(&lost) {
-            while other > 0 && self.random.once_in(other) {
-                let word = sender::other_word(&mut self.random);
-                state = self.step(state, word, cells::ANSWER).1;
-            }
-            if lost {
-                continue;
-            }
-            let (refusal, next, answer) = self.step(state, word, cells::ANSWER);
-            state = next;
-            if refusal == 0 && answer[0] == 1 {
-                reports.push(answer[1..].to_vec());
-            }
-        }
-        let input = (&groups, &lost);
+            .mark("assembler: a state that no calls reach", unreached);
         self.tally
-            .expect(Call::Transmission, &input, &reports, &due);
-        self.tally.count(Call::Transmission, 0);
-    }
-
-    /// Messages of which two multi-group ones of one index have at least five between them.
-    fn messages(&mut self) -> Vec<Message> {
-        let random = &mut self.random;
-        let count = 1 + random.place(30);
-        let singles = random.pick(&[2, 4, 10]);
-        let few = random.once_in(2);
-        let mut sent: Vec<Message> = Vec::new();
-        for _ in 0..count {
-            let near = &sent[sent.len().saturating_sub(5)..];
-            let mut free: Vec<_> = (1..=6)
-                .filter(|&ci| near.iter().all(|message| message.ci != ci))
-                .collect();
-            if few {
-                free.truncate(1);
-            }
-            let message = if free.is_empty() || random.once_in(singles) {
-                Message::single(random)
-            } else {
-                let ci = random.pick(&free);
-                Message::random_multi(random, ci)
-            };
-            sent.push(message);
-        }
-        sent
-    }
-
-    /// Which groups are lost: single ones and stretches, none of which holds five messages.
-    fn losses(&mut self, sent: &[Message], groups: &[(usize, u64)]) -> Vec<bool> {
-        let random = &mut self.random;
-        let mut lost = vec![false; groups.len()];
-        let rate = random.pick(&[0, 20, 5, 2]);
-        if rate > 0 {
-            lost.iter_mut()
-                .for_each(|lost| *lost = random.once_in(rate));
-        }
-        for _ in 0..random.place(6) {
-            let from = random.place(groups.len());
-            let to = groups.len().min(from + random.place(24));
-            lost[from..to].fill(true);
-        }
-        let mut from = 0;
-        let mut longest = 0;
-        while from < lost.len() {
-            let Some(run) = lost[from..].iter().position(|&lost| lost) else {
-                break;
-            };
-            let start = from + run;
-            let length = lost[start..].iter().position(|&lost| !lost);
-            let end = length.map_or(lost.len(), |length| start + length);
-            let held = (0..sent.len()).filter(|&i| {
-                let mut of_message = groups.iter().enumerate().filter(|(_, g)| g.0 == i);
-                of_message.all(|(at, _)| (start..end).contains(&at))
-            });
-            let held = held.count();
-            if held >= 5 {
-                // Let one group of the stretch arrive, and look again.
-                lost[start + random.place(end - start)] = false;
-                from = start;
-            } else {
-                longest = longest.max(held);
-                from = end;
-            }
-        }
-        self.tally
-            .mark("transmission: a loss that holds four", longest == 4);
-        lost
+            .mark("assembler: a state without an index, not empty", no_index);
     }
 }

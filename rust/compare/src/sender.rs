@@ -2,11 +2,27 @@
 //! must answer is known without either program.
 
 use crate::random::Random;
-use calls::REPORT;
+use proved::{DrmUnit, Fig, Head, Item, RdsGroup, Report, SystemFields, WordFields};
 
 /// Bits of the value after labels 0 to 14.
 const WIDTHS: [u32; 15] = [3, 3, 5, 5, 5, 8, 8, 8, 8, 11, 16, 16, 16, 16, 0];
-pub const MOST_ITEMS: usize = 28;
+/// The separator, an item without a value.
+const SEPARATOR: Item = Item {
+    label: 14,
+    value: 0,
+};
+/// The item that sets the diversion.
+const DIVERSION: Item = Item { label: 1, value: 5 };
+/// The most bits of content.
+pub const CONTENT_BITS: usize = 112;
+/// Words are below this.
+pub const WORD_LIMIT: u64 = 1 << 37;
+/// The most words of 37 bits in a FIG.
+pub const FIG_WORDS: usize = 6;
+/// The most words in a data unit: without a header, in 128 bytes.
+pub const UNIT_WORDS: usize = 27;
+/// With the shortest header there is room for so many.
+pub const HEADED_WORDS: usize = 25;
 
 /// A string of bits.
 #[derive(Clone, Debug, Default)]
@@ -22,7 +38,8 @@ impl Bits {
         bits
     }
 
-    pub fn add(&mut self, value: u64, width: usize) {
+    pub fn add(&mut self, value: impl Into<u64>, width: usize) {
+        let value = value.into();
         self.0.extend((0..width).rev().map(|i| value >> i & 1 == 1));
     }
 
@@ -66,63 +83,133 @@ pub fn checked(mut bytes: Vec<u8>) -> Vec<u8> {
     bytes
 }
 
-#[derive(Clone, Copy, Debug)]
-pub struct Head {
-    pub direction: u64,
-    pub extent: u64,
-    pub event: u64,
-    pub location: u64,
-}
-
-impl Head {
-    pub fn random(random: &mut Random) -> Self {
-        Self {
-            direction: random.bits(1),
-            extent: random.bits(3),
-            event: random.bits(11),
-            location: random.bits(16),
-        }
-    }
-
-    fn fields(&self) -> [(u64, usize); 4] {
-        [
-            (self.direction, 1),
-            (self.extent, 3),
-            (self.event, 11),
-            (self.location, 16),
-        ]
+pub fn random_head(random: &mut Random) -> Head {
+    Head {
+        direction: random.byte(1),
+        extent: random.byte(3),
+        event: random.short(11),
+        location: random.short(16),
     }
 }
 
-pub fn single_word(duration: u64, diversion: u64, head: Head) -> u64 {
-    let fields = [(0, 1), (1, 1), (duration, 3), (diversion, 1)];
-    Bits::of(&[&fields[..], &head.fields()].concat()).number()
+/// A word of bits before the head, and the head.
+fn headed_word(fields: &[(u64, usize)], head: Head) -> u64 {
+    let mut bits = Bits::of(fields);
+    bits.add(head.direction, 1);
+    bits.add(head.extent, 3);
+    bits.add(head.event, 11);
+    bits.add(head.location, 16);
+    bits.number()
 }
 
-pub fn first_word(ci: u64, head: Head) -> u64 {
-    let fields = [(0, 2), (ci, 3), (1, 1)];
-    Bits::of(&[&fields[..], &head.fields()].concat()).number()
+pub fn single_word(duration: u8, diversion: u8, head: Head) -> u64 {
+    let fields = [(0, 1), (1, 1), (duration.into(), 3), (diversion.into(), 1)];
+    headed_word(&fields, head)
 }
 
-pub fn later_word(ci: u64, mark: u64, gsi: u64, content: u64) -> u64 {
-    Bits::of(&[(0, 2), (ci, 3), (0, 1), (mark, 1), (gsi, 2), (content, 28)]).number()
+pub fn first_word(ci: u8, head: Head) -> u64 {
+    headed_word(&[(0, 2), (ci.into(), 3), (1, 1)], head)
 }
 
-/// A word that is no user group: tuning, administration, CI 7, or of 2^37 or more.
+pub fn later_word(ci: u8, mark: u8, gsi: u8, content: u32) -> u64 {
+    let mut bits = Bits::of(&[(0, 2), (ci.into(), 3), (0, 1)]);
+    bits.add(mark, 1);
+    bits.add(gsi, 2);
+    bits.add(content, 28);
+    bits.number()
+}
+
+/// A word that is no user group: tuning, administration or CI 7.
 pub fn other_word(random: &mut Random) -> u64 {
     let low = random.bits(32);
-    match random.below(4) {
+    match random.below(3) {
         0 => Bits::of(&[(1, 1), (random.bits(4), 4), (low, 32)]).number(),
         1 => low,
-        2 => 7 << 32 | low,
-        _ => (random.below(1 << 27) + 1) << 37 | low,
+        _ => 7 << 32 | low,
     }
 }
 
-pub type Item = (u64, u64);
+/// A number that is no word.
+pub fn no_word(random: &mut Random) -> u64 {
+    (random.below(1 << 27) + 1) << 37 | random.bits(37)
+}
 
-fn width((label, _): Item) -> usize {
-    WIDTHS[label as usize] as usize
+/// The fields of a word of any kind, and the word.
+pub fn random_word(random: &mut Random) -> (WordFields, u64) {
+    let head = random_head(random);
+    let mut fields = WordFields {
+        kind: random.below(6) as u8,
+        ..WordFields::default()
+    };
+    let word = match fields.kind {
+        0 => {
+            fields.duration = random.byte(3);
+            fields.diversion = random.byte(1);
+            fields.head = head;
+            single_word(fields.duration, fields.diversion, head)
+        }
+        1 => {
+            fields.ci = random.ci();
+            fields.head = head;
+            first_word(fields.ci, head)
+        }
+        2 => {
+            fields.ci = random.ci();
+            fields.second = random.byte(1);
+            fields.gsi = random.byte(2);
+            fields.content = random.bits(28) as u32;
+            later_word(fields.ci, fields.second, fields.gsi, fields.content)
+        }
+        kind => {
+            let start = match kind {
+                3 => [(1, 1), (random.bits(4), 4)],
+                4 => [(0, 2), (0, 3)],
+                _ => [(0, 2), (7, 3)],
+            };
+            let mut bits = Bits::of(&start);
+            bits.add(random.bits(32), 32);
+            fields.word = bits.number();
+            fields.word
+        }
+    };
+    (fields, word)
+}
+
+/// The fields of a system word, and the word.
+pub fn random_system(random: &mut Random) -> (SystemFields, u16) {
+    let mut fields = SystemFields {
+        variant: random.byte(1),
+        ..SystemFields::default()
+    };
+    let mut bits = Bits::of(&[(fields.variant.into(), 2)]);
+    if fields.variant == 0 {
+        // Reserved.
+        bits.add(0_u8, 2);
+    }
+    let mut draw = |field: &mut u8, width: usize| {
+        *field = random.byte(width as u32);
+        bits.add(*field, width);
+    };
+    if fields.variant == 0 {
+        draw(&mut fields.ltn, 6);
+        draw(&mut fields.afi, 1);
+        draw(&mut fields.mode, 1);
+        draw(&mut fields.international, 1);
+        draw(&mut fields.national, 1);
+        draw(&mut fields.regional, 1);
+        draw(&mut fields.urban, 1);
+    } else {
+        draw(&mut fields.gap, 2);
+        draw(&mut fields.sid, 6);
+        draw(&mut fields.ta, 2);
+        draw(&mut fields.tw, 2);
+        draw(&mut fields.td, 2);
+    }
+    (fields, bits.number() as u16)
+}
+
+fn width(item: Item) -> usize {
+    WIDTHS[usize::from(item.label)] as usize
 }
 
 /// Bits that items take.
@@ -136,20 +223,19 @@ pub fn random_item(random: &mut Random) -> Item {
         1 => 14,
         _ => random.below(15),
     };
-    let value = random.bits(WIDTHS[label as usize]);
-    (
-        label,
-        if label == 1 && random.once_in(4) {
-            5
-        } else {
-            value
-        },
-    )
+    let value = random.short(WIDTHS[label as usize]);
+    if label == 1 && random.once_in(4) {
+        return DIVERSION;
+    }
+    Item {
+        label: label as u16,
+        value,
+    }
 }
 
 /// Items that take at most so many bits, often as many as that, the last not (0, 0).
 pub fn random_items(random: &mut Random, most: usize) -> Vec<Item> {
-    let fewer = random.place(most + 1);
+    let fewer = random.index(most + 1);
     let most = random.pick(&[most, fewer]);
     let separators = random.once_in(8);
     let mut items = Vec::new();
@@ -162,92 +248,89 @@ pub fn random_items(random: &mut Random, most: usize) -> Vec<Item> {
     }
     if separators || random.once_in(2) {
         while length(&items) + 4 <= most {
-            items.push((14, 0));
+            items.push(SEPARATOR);
         }
     }
-    while items.last() == Some(&(0, 0)) {
+    while items.last() == Some(&Item::default()) {
         items.pop();
     }
     items
 }
 
 /// The parts of 28 bits that items take, at least one.
-pub fn parts(items: &[Item]) -> Vec<u64> {
+pub fn parts(items: &[Item]) -> Vec<u32> {
     let mut bits = Bits::default();
     for &item in items {
-        bits.add(item.0, 4);
-        bits.add(item.1, width(item));
+        bits.add(item.label, 4);
+        bits.add(item.value, width(item));
     }
     bits.pad(28);
-    bits.numbers(28)
+    bits.numbers(28).iter().map(|&part| part as u32).collect()
 }
 
-/// A message: the cells of its report, and its words.
+/// A message: its report and its words.
 #[derive(Clone, Debug)]
 pub struct Message {
     /// 0 for a single-group message.
-    pub ci: u64,
-    pub report: [u64; REPORT],
+    pub ci: u8,
+    pub report: Report,
     pub words: Vec<u64>,
 }
 
-/// The cells of a report.
-pub fn report(multi: bool, head: Head, told: (u64, u64), items: &[Item]) -> [u64; REPORT] {
-    let (diversion, duration) = told;
-    let mut cells = [0; REPORT];
-    cells[..8].copy_from_slice(&[
-        multi.into(),
-        head.event,
-        head.location,
-        head.direction,
-        head.extent,
-        diversion,
-        duration,
-        items.len() as u64,
-    ]);
-    for (cells, &(label, value)) in cells[8..].chunks_mut(2).zip(items) {
-        cells.copy_from_slice(&[label, value]);
-    }
-    cells
+/// A multi-group report: its duration is the first item's of label 0, and it has a diversion if
+/// an item says so.
+pub fn multi_report(head: Head, items: &[Item]) -> Report {
+    let duration = items.iter().find(|item| item.label == 0);
+    let mut report = Report {
+        head,
+        item_count: items.len(),
+        diversion: items.contains(&DIVERSION).into(),
+        duration: duration.map_or(0, |item| item.value as u8),
+        form: 1,
+        ..Report::default()
+    };
+    report.items[..items.len()].copy_from_slice(items);
+    report
 }
 
 impl Message {
     pub fn single(random: &mut Random) -> Self {
-        let head = Head::random(random);
-        let (diversion, duration) = (random.bits(1), random.bits(3));
+        let report = Report {
+            head: random_head(random),
+            diversion: random.byte(1),
+            duration: random.byte(3),
+            ..Report::default()
+        };
         Self {
             ci: 0,
-            report: report(false, head, (diversion, duration), &[]),
-            words: vec![single_word(duration, diversion, head)],
+            report,
+            words: vec![single_word(report.duration, report.diversion, report.head)],
         }
     }
 
     /// A multi-group message of these items; `spare` more later groups of zero bits, as far as
     /// they fit.
-    pub fn multi(head: Head, ci: u64, items: &[Item], spare: usize) -> Self {
-        let duration = items.iter().find(|item| item.0 == 0);
-        let diversion = items.contains(&(1, 5));
-        let told = (diversion.into(), duration.map_or(0, |item| item.1));
+    pub fn multi(head: Head, ci: u8, items: &[Item], spare: usize) -> Self {
         let mut parts = parts(items);
         parts.resize((parts.len() + spare).min(4), 0);
         let mut words = vec![first_word(ci, head)];
         let count = parts.len();
         words.extend(parts.iter().enumerate().map(|(i, &part)| {
             let gsi = count - 1 - i;
-            later_word(ci, u64::from(i == 0), gsi as u64, part)
+            later_word(ci, u8::from(i == 0), gsi as u8, part)
         }));
         Self {
             ci,
-            report: report(true, head, told, items),
+            report: multi_report(head, items),
             words,
         }
     }
 
-    pub fn random_multi(random: &mut Random, ci: u64) -> Self {
-        let head = Head::random(random);
-        let items = random_items(random, 112);
+    pub fn random_multi(random: &mut Random, ci: u8) -> Self {
+        let head = random_head(random);
+        let items = random_items(random, CONTENT_BITS);
         let spare = if random.once_in(4) {
-            random.place(4)
+            random.index(4)
         } else {
             0
         };
@@ -258,21 +341,43 @@ impl Message {
         if random.once_in(3) {
             Self::single(random)
         } else {
-            let ci = 1 + random.below(6);
+            let ci = random.ci();
             Self::random_multi(random, ci)
         }
     }
 }
 
-/// An RDS group.
-pub fn group(pi: u64, tp: u64, pty: u64, word: u64) -> Vec<u8> {
-    Bits::of(&[(pi, 16), (8, 4), (0, 1), (tp, 1), (pty, 5), (word, 37)]).bytes()
+pub fn random_group(random: &mut Random, word: u64) -> RdsGroup {
+    RdsGroup {
+        pi: random.short(16),
+        tp: random.byte(1),
+        pty: random.byte(5),
+        word,
+    }
 }
 
-/// A FIG 5/1.
-pub fn fig(d1: u64, tcid: u64, words: &[u64]) -> Vec<u8> {
-    let width = if d1 == 0 { 37 } else { 16 };
-    let mut bits = Bits::of(&[(d1, 1), (0, 1), (tcid, 3), (1, 3)]);
+/// The bytes of an RDS group.
+pub fn group(group: RdsGroup) -> Vec<u8> {
+    let mut bits = Bits::of(&[(group.pi.into(), 16), (8, 4), (0, 1)]);
+    bits.add(group.tp, 1);
+    bits.add(group.pty, 5);
+    bits.add(group.word, 37);
+    bits.bytes()
+}
+
+/// The most words of a FIG by its D1, and the bits of each.
+pub fn fig_words(d1: u8) -> (usize, usize) {
+    if d1 == 0 {
+        (FIG_WORDS, 37)
+    } else {
+        (14, 16)
+    }
+}
+
+/// The bytes of a FIG 5/1.
+pub fn fig(fig: Fig, words: &[u64]) -> Vec<u8> {
+    let (_, width) = fig_words(fig.d1);
+    let mut bits = Bits::of(&[(fig.d1.into(), 1), (0, 1), (fig.tcid.into(), 3), (1, 3)]);
     for &word in words {
         bits.add(word, width);
     }
@@ -282,81 +387,59 @@ pub fn fig(d1: u64, tcid: u64, words: &[u64]) -> Vec<u8> {
     fig
 }
 
-/// What a DRM unit holds.
-#[derive(Clone, Debug)]
-pub struct Unit {
-    pub tmchi: u64,
-    pub short_id: u64,
-    pub services: u64,
-    pub country: u64,
-    pub ecc: u64,
-    pub lto: i8,
-    pub system: Vec<u64>,
-    pub words: Vec<u64>,
+/// A data unit with a header or without.
+pub fn random_unit(random: &mut Random) -> DrmUnit {
+    let mut unit = DrmUnit {
+        short_id: random.byte(4),
+        ..DrmUnit::default()
+    };
+    if random.once_in(2) {
+        unit.tmchi = 1;
+        unit.services = random.byte(4);
+        unit.country = random.byte(4);
+        unit.ecc = random.byte(8);
+        unit.lto = random.lto();
+        unit.system_count = 1 + random.below(3) as u8;
+        for word in &mut unit.system_words[..usize::from(unit.system_count)] {
+            *word = random.short(16);
+        }
+    }
+    unit
 }
 
-impl Unit {
-    /// Without words.
-    pub fn random(random: &mut Random) -> Self {
-        let mut unit = Self {
-            tmchi: random.below(2),
-            short_id: random.bits(4),
-            services: 0,
-            country: 0,
-            ecc: 0,
-            lto: 0,
-            system: vec![],
-            words: vec![],
-        };
-        if unit.tmchi == 1 {
-            unit.services = random.bits(4);
-            unit.country = random.bits(4);
-            unit.ecc = random.bits(8);
-            unit.lto = random.below(63) as i8 - 31;
-            let m = 1 + random.place(3);
-            unit.system = (0..m).map(|_| random.bits(16)).collect();
+/// The bytes of a data unit before its check word, padded; `ua` is the UA data if it is sent,
+/// `rfa` that bit.
+pub fn unit(unit: &DrmUnit, words: &[u64], ua: Option<u16>, rfa: u8) -> Vec<u8> {
+    let mut bits = Bits::of(&[(unit.tmchi.into(), 1), (0, 1), (unit.short_id.into(), 4)]);
+    if unit.tmchi == 1 {
+        bits.add(rfa, 1);
+        bits.add(ua.is_some(), 1);
+        if let Some(aid) = ua {
+            bits.add(aid, 16);
         }
-        unit
+        bits.add(unit.services, 4);
+        bits.add(unit.country, 4);
+        bits.add(unit.ecc, 8);
+        bits.add(unit.lto < 0, 1);
+        bits.add(unit.lto.unsigned_abs(), 5);
+        bits.add(unit.system_count, 2);
+        for &word in &unit.system_words[..usize::from(unit.system_count)] {
+            bits.add(word, 16);
+        }
     }
+    for &word in words {
+        bits.add(word, 37);
+    }
+    bits.bytes()
+}
 
-    /// The bits before the check word, padded; `ua` is the UA data if it is sent, `rfa` that bit.
-    pub fn bytes(&self, ua: Option<u64>, rfa: u64) -> Vec<u8> {
-        let mut bits = Bits::of(&[(self.tmchi, 1), (0, 1), (self.short_id, 4)]);
-        if self.tmchi == 1 {
-            bits.add(rfa, 1);
-            bits.add(ua.is_some().into(), 1);
-            if let Some(aid) = ua {
-                bits.add(aid, 16);
-            }
-            bits.add(self.services, 4);
-            bits.add(self.country, 4);
-            bits.add(self.ecc, 8);
-            bits.add((self.lto < 0).into(), 1);
-            bits.add(self.lto.unsigned_abs().into(), 5);
-            bits.add(self.system.len() as u64, 2);
-            for &word in &self.system {
-                bits.add(word, 16);
-            }
-        }
-        for &word in &self.words {
-            bits.add(word, 37);
-        }
-        bits.bytes()
-    }
-
-    /// The unit's cells.
-    pub fn cells(&self) -> [u64; 9] {
-        let word = |i: usize| self.system.get(i).copied().unwrap_or(0);
-        [
-            self.tmchi,
-            self.short_id,
-            self.services,
-            self.country,
-            self.ecc,
-            self.system.len() as u64,
-            word(0),
-            word(1),
-            word(2),
-        ]
-    }
+/// The minute at which a life ends: life 0 at the next minute that is a midnight of the service.
+pub fn expiry(minute: u32, lto: i8, life: u16) -> u64 {
+    let midnight = |&minute: &i64| (minute + 30 * i64::from(lto)).rem_euclid(1440) == 0;
+    let minute = i64::from(minute);
+    let end = match life {
+        0 => (minute + 1..=minute + 1440).find(midnight),
+        _ => Some(minute + i64::from(life)),
+    };
+    end.unwrap_or_default() as u64
 }

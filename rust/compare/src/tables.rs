@@ -1,12 +1,11 @@
 //! The message table and its clock.
 
-use proved::Taking;
+use proved::{Head, Report, Service, TableAnswer, TableReading, Taking};
 
-use crate::carriers::{CELL, COUNT};
-use crate::sender::{self, Head, Message};
+use crate::fields::Fields;
+use crate::sender::{self, Message, CONTENT_BITS};
 use crate::tally::Call;
 use crate::Trial;
-use calls as cells;
 
 const RECORD: usize = 32;
 const LARGEST: u32 = 4_000_000_000;
@@ -18,9 +17,9 @@ pub struct Lists {
 }
 
 /// Few enough services, locations and classes that records match.
-const COUNTRIES: [u64; 2] = [1, 15];
-const NUMBERS: [u64; 2] = [0, 63];
-const LOCATIONS: [u64; 4] = [1, 0x0100, 0xFBFF, 0];
+const COUNTRIES: [u8; 2] = [1, 15];
+const NUMBERS: [u8; 2] = [0, 63];
+const LOCATIONS: [u16; 4] = [1, 0x0100, 0xFBFF, 0];
 const CLASSES: [u16; 3] = [1, 2, 63];
 
 impl Trial {
@@ -46,15 +45,15 @@ impl Trial {
         let (mut catalogue, mut lives) = (lists.catalogue.clone(), lists.lives.clone());
         let random = &mut self.random;
         match random.below(6) {
-            0 => catalogue.truncate(random.place(2049)),
+            0 => catalogue.truncate(random.index(2049)),
             1 => catalogue.push(0),
-            2 => lives.truncate(random.place(17)),
+            2 => lives.truncate(random.index(17)),
             3 => lives.push(0),
-            4 => lives[random.place(16)] = random.pick(&[10_081, 10_080, 0xFFFF]),
+            4 => lives[random.index(16)] = random.pick(&[10_081, 10_080, 0xFFFF]),
             _ => {
                 let (kind, class) = (random.below(4) as u16, random.pick(&[0, 0, 1, 63]));
                 let rest = random.pick(&[0, 0, 1 << 8, 1 << 9, 1 << 15]);
-                catalogue[random.place(2048)] = rest | kind << 6 | class;
+                catalogue[random.index(2048)] = rest | kind << 6 | class;
             }
         }
         Lists { catalogue, lives }
@@ -68,7 +67,7 @@ impl Trial {
         let mut groups = message.words.len();
         let mut content: Vec<u64> = message.words[1..].iter().map(|w| w % (1 << 28)).collect();
         if random.once_in(4) {
-            groups = 1 + random.place(5);
+            groups = 1 + random.index(5);
             content = (1..groups).map(|_| random.bits(28)).collect();
         }
         content.resize(4, 0);
@@ -81,24 +80,24 @@ impl Trial {
         };
         record[0] = 1;
         record[1] = groups as u8;
-        record[2] = random.pick(&NUMBERS) as u8;
-        record[3] = random.pick(&NUMBERS) as u8;
-        let location = random.pick(&LOCATIONS) as u16;
+        record[2] = random.pick(&NUMBERS);
+        record[3] = random.pick(&NUMBERS);
+        let location = random.pick(&LOCATIONS);
         record[4..6].copy_from_slice(&location.to_le_bytes());
-        let event = random.bits(11) as u16;
+        let event = random.short(11);
         record[6..8].copy_from_slice(&event.to_le_bytes());
-        record[8] = random.bits(1) as u8;
-        record[9] = random.bits(3) as u8;
-        record[10] = message.report[5] as u8;
-        record[11] = message.report[6] as u8;
+        record[8] = random.byte(1);
+        record[9] = random.byte(3);
+        record[10] = message.report.diversion;
+        record[11] = message.report.duration;
         if random.once_in(8) {
-            record[10] = random.bits(1) as u8;
-            record[11] = random.bits(3) as u8;
+            record[10] = random.byte(1);
+            record[11] = random.byte(3);
         }
         record[12..16].copy_from_slice(&expiry.max(1).to_le_bytes());
         record[16..30].copy_from_slice(&sender::Bits::of(&fields).bytes());
         record[30] = random.pick(&CLASSES) as u8;
-        record[31] = random.pick(&COUNTRIES) as u8;
+        record[31] = random.pick(&COUNTRIES);
         record
     }
 
@@ -120,7 +119,7 @@ impl Trial {
         }
         if !well_formed {
             let random = &mut self.random;
-            let at = random.place(table.len());
+            let at = random.index(table.len());
             match random.below(8) {
                 0 => table.truncate(at),
                 1 => table.resize(RECORD * 1025, 0),
@@ -161,14 +160,14 @@ impl Trial {
     }
 
     /// A report that records of [`Trial::table`] may match, now and then unfit.
-    fn arrival(&mut self) -> Vec<u64> {
+    fn arrival(&mut self) -> Report {
         if self.random.once_in(8) {
             return self.any_report();
         }
         let random = &mut self.random;
-        let mut report = Message::random(random).report.to_vec();
-        report[1] = random.bits(11);
-        report[2] = if random.once_in(16) {
+        let mut report = Message::random(random).report;
+        report.head.event = random.short(11);
+        report.head.location = if random.once_in(16) {
             random.pick(&[0xFC00, 0xFBFF, 0xFFFF])
         } else {
             random.pick(&LOCATIONS)
@@ -202,63 +201,65 @@ impl Trial {
         let report = self.arrival();
         let minute = self.next_minute(*clock);
         let random = &mut self.random;
-        let mut service = [
-            random.pick(&COUNTRIES),
-            random.pick(&NUMBERS),
-            random.pick(&NUMBERS),
-        ];
+        let mut service = Service {
+            country: random.pick(&COUNTRIES),
+            ltn: random.pick(&NUMBERS),
+            sid: random.pick(&NUMBERS),
+        };
         if random.once_in(16) {
-            random.damage(&mut service);
+            random.damage(service.fields());
         }
         let lto = if random.once_in(16) {
             random.number() as i8
         } else {
-            random.below(63) as i8 - 31
+            random.lto()
         };
         let taking = Taking {
             catalogue: &lists.catalogue,
             lives: &lists.lives,
-            report: &report,
-            country: service[0] as u8,
-            ltn: service[1] as u8,
-            sid: service[2] as u8,
+            report,
+            service,
             minute,
             lto,
         };
-        let entry = (table.clone(), *clock, vec![CELL; random.room(cells::TAKE)]);
+        let entry = (table.clone(), *clock);
         let (mut a, mut b) = (entry.clone(), entry.clone());
-        let proved = proved::table_take(&mut a.0, &mut a.1, &taking, &mut a.2);
-        let second = cells::table_take(&mut b.0, &mut b.1, &taking, &mut b.2);
+        let proved = proved::table_take(&mut a.0, &mut a.1, &taking);
+        let second = calls::table_take(&mut b.0, &mut b.1, &taking);
         let input = (&entry, &taking);
         self.tally
-            .agree(Call::TableTake, &input, &entry, (proved, &a), (second, &b));
-        let did = |i: usize, least: u64| proved == 0 && a.2[i] >= least;
-        let (expired, matched, stored) = (did(0, 2), did(1, 2), did(2, 1));
-        let freed = proved == 0 && a.2[1] > 0 && a.2[2] == 0;
-        self.tally.mark("take: several expired", expired);
-        self.tally.mark("take: several matched", matched);
-        self.tally.mark("take: stored", stored);
-        self.tally.mark("take: matched and not stored", freed);
-        (*table, *clock) = (a.0, a.1);
+            .agree_lent(Call::TableTake, &input, &entry, (proved, &a), (second, &b));
+        let tally = &mut self.tally;
+        let unstored = proved.matched > 0 && proved.stored == 0;
+        tally.mark("take: several expired", proved.expired > 1);
+        tally.mark("take: several matched", proved.matched > 1);
+        tally.mark("take: stored", proved.stored == 1);
+        tally.mark(
+            "take: stored at a place that is not the first",
+            proved.place > 0,
+        );
+        tally.mark("take: matched and not stored", unstored);
+        let other_form = report.form > 1 && matches!(proved.refusal, 9);
+        tally.mark("take: another form", other_form);
+        (*table, *clock) = a;
     }
 
     fn expire(&mut self, table: &mut Vec<u8>, clock: &mut u32) {
         let minute = self.next_minute(*clock);
-        let entry = (table.clone(), *clock, COUNT);
+        let entry = (table.clone(), *clock);
         let (mut a, mut b) = (entry.clone(), entry.clone());
-        let proved = proved::table_expire(&mut a.0, &mut a.1, minute, &mut a.2);
-        let second = cells::table_expire(&mut b.0, &mut b.1, minute, &mut b.2);
+        let proved = proved::table_expire(&mut a.0, &mut a.1, minute);
+        let second = calls::table_expire(&mut b.0, &mut b.1, minute);
         let input = (&entry, minute);
-        self.tally.agree(
+        self.tally.agree_lent(
             Call::TableExpire,
             &input,
             &entry,
             (proved, &a),
             (second, &b),
         );
-        let several = proved == 0 && a.2 > 1;
-        self.tally.mark("expire: several", several);
-        (*table, *clock) = (a.0, a.1);
+        self.tally.mark("expire: several", proved.expired > 1);
+        (*table, *clock) = a;
     }
 
     fn read(&mut self, table: &[u8]) {
@@ -267,21 +268,19 @@ impl Trial {
         let place = match random.below(12) {
             0 => count,
             1 => random.number() as usize,
-            _ => random.place(count + 1),
+            _ => random.index(count + 1),
         };
-        let entry = vec![CELL; random.room(cells::RECORD)];
-        let (mut a, mut b) = (entry.clone(), entry.clone());
-        let proved = proved::table_read(table, place, &mut a);
-        let second = cells::table_read(table, place, &mut b);
-        let input = (table, place, entry.len());
-        self.tally
-            .agree(Call::TableRead, &input, &entry, (proved, &a), (second, &b));
-        let form = |cell: u64| proved == 0 && a[0] == 1 && a[1] == cell;
-        let (single, multi) = (form(0), form(1));
+        let proved = proved::table_read(table, place);
+        let second = calls::table_read(table, place);
+        let input = (table, place);
+        self.tally.agree(Call::TableRead, &input, proved, second);
+        let used = proved.used == 1;
+        let single = used && proved.report.form == 0;
+        let multi = used && proved.report.form == 1;
+        let free = proved == TableReading::default();
         self.tally.mark("read: a single-group report", single);
         self.tally.mark("read: a multi-group report", multi);
-        self.tally
-            .mark("read: a free record", proved == 0 && a[0] == 0);
+        self.tally.mark("read: a free record", free);
     }
 
     /// Reads a record of which one byte or one bit at the end of the content was set.
@@ -294,7 +293,7 @@ impl Trial {
             table[16 + bit / 8] |= 0x80 >> (bit % 8);
         } else {
             let edges = [0, 1, 2, 5, 6, 7, 8, 15, 16, 63, 64, 128, 255];
-            table[random.place(RECORD)] = random.pick(&edges);
+            table[random.index(RECORD)] = random.pick(&edges);
         }
         self.read(&table);
     }
@@ -304,49 +303,54 @@ impl Trial {
         let random = &mut self.random;
         let head = Head {
             location: random.pick(&LOCATIONS),
-            ..Head::random(random)
+            ..sender::random_head(random)
         };
-        let kind = lists.catalogue[head.event as usize] >> 6 & 3;
-        if kind != 1 {
+        let entry = lists.catalogue[usize::from(head.event)];
+        if entry >> 6 & 3 != 1 {
             return;
         }
-        let items = sender::random_items(random, 112);
-        let report = Message::multi(head, 1, &items, 0).report;
+        let mut report = Message::single(random).report;
+        report.head = head;
+        if !random.once_in(3) {
+            let items = sender::random_items(random, CONTENT_BITS);
+            report = sender::multi_report(head, &items);
+        }
         let mut table = [0; 4 * RECORD];
         let mut clock = 0;
+        let service = Service {
+            country: random.byte(4),
+            ltn: random.byte(6),
+            sid: random.byte(6),
+        };
+        let minute = random.below(10_000) as u32;
+        let lto = random.lto();
         let taking = Taking {
             catalogue: &lists.catalogue,
             lives: &lists.lives,
-            report: &report,
-            country: random.bits(4) as u8,
-            ltn: random.bits(6) as u8,
-            sid: random.bits(6) as u8,
-            minute: random.below(10_000) as u32,
-            lto: random.below(63) as i8 - 31,
+            report,
+            service,
+            minute,
+            lto,
         };
-        let mut answer = [CELL; cells::TAKE];
-        let proved = proved::table_take(&mut table, &mut clock, &taking, &mut answer);
-        let input = (&taking, 0);
+        let input = (report, service, minute, lto);
+        let taken = proved::table_take(&mut table, &mut clock, &taking);
+        let meant = TableAnswer {
+            stored: 1,
+            ..TableAnswer::default()
+        };
         self.tally
-            .expect(Call::TableTake, &input, (proved, answer), (0, [0, 0, 1, 0]));
-        let mut record = [CELL; cells::RECORD];
-        let proved = proved::table_read(&table, 0, &mut record);
-        let kind = usize::from(lists.catalogue[head.event as usize] >> 8 & 1);
-        let life = u64::from(lists.lives[8 * kind + report[6] as usize]);
-        let minute = u64::from(taking.minute);
-        // From a day before, so that local time is not negative.
-        let local = minute + 1440 - 930 + (30 * (i64::from(taking.lto) + 31)) as u64;
-        let until = if life == 0 { 1440 - local % 1440 } else { life };
-        let mut meant = vec![1];
-        meant.extend(report);
-        meant.extend([taking.country, taking.ltn, taking.sid].map(u64::from));
-        meant.push(minute + until);
-        self.tally.expect(
-            Call::TableRead,
-            &input,
-            (proved, record.to_vec()),
-            (0, meant),
-        );
+            .expect(Call::TableTake, &input, (taken, clock), (meant, minute));
+        let read = proved::table_read(&table, 0);
+        let duration_type = usize::from(entry >> 8 & 1);
+        let life = lists.lives[8 * duration_type + usize::from(report.duration)];
+        let meant = TableReading {
+            report,
+            service,
+            expiry: sender::expiry(minute, lto, life) as u32,
+            used: 1,
+            refusal: 0,
+        };
+        self.tally.expect(Call::TableRead, &input, read, meant);
         self.tally.count(Call::TableTake, 0);
         self.tally.count(Call::TableRead, 0);
     }
@@ -361,12 +365,18 @@ impl Trial {
         let lto = random.number() as i8;
         let life = match random.below(3) {
             0 => 0,
-            _ => random.bits(16) as u16,
+            _ => random.short(16),
+        };
+        // Now and then a midnight of the service.
+        let minute = match random.below(4) {
+            0 => sender::expiry(minute, lto, 0) as u32,
+            _ => minute,
         };
         let proved = proved::expiry(minute, lto, life);
-        let second = second::clock::Utc(minute).expiry(lto, life);
+        let second = calls::expiry(minute, lto, life);
         let input = (minute, lto, life);
-        self.tally
-            .agree(Call::Expiry, &input, &proved, (0, &proved), (0, &second));
+        self.tally.agree(Call::Expiry, &input, proved, second);
+        let meant = sender::expiry(minute, lto, life);
+        self.tally.expect(Call::Expiry, &input, proved, meant);
     }
 }

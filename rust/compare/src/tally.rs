@@ -6,23 +6,23 @@ use std::process;
 
 /// The calls, each with the refusals that it can give.
 const CALLS: [(Call, &str, &[u8]); 20] = [
-    (Call::WordParse, "word parse", &[9, 15]),
-    (Call::WordCompose, "word compose", &[9, 15]),
-    (Call::SystemRead, "system read", &[2, 15]),
-    (Call::SystemWrite, "system write", &[9, 15]),
-    (Call::RdsRead, "RDS read", &[1, 2, 15]),
+    (Call::WordParse, "word parse", &[9]),
+    (Call::WordCompose, "word compose", &[9]),
+    (Call::SystemRead, "system read", &[2]),
+    (Call::SystemWrite, "system write", &[9]),
+    (Call::RdsRead, "RDS read", &[1, 2]),
     (Call::RdsWrite, "RDS write", &[9, 15]),
-    (Call::RdsReceive, "RDS receive", &[1, 2, 9, 15]),
+    (Call::RdsReceive, "RDS receive", &[1, 2, 9]),
     (Call::ReportWrite, "report write", &[9, 15]),
-    (Call::AssemblerStep, "assembler step", &[5, 6, 7, 8, 9, 15]),
+    (Call::AssemblerStep, "assembler step", &[5, 6, 7, 8, 9]),
     (Call::FigRead, "FIG read", &[1, 2, 3, 15]),
     (Call::FigWrite, "FIG write", &[9, 15]),
     (Call::DrmRead, "DRM read", &[1, 2, 3, 4, 15]),
     (Call::DrmWrite, "DRM write", &[9, 15]),
     (Call::CheckWord, "check word", &[]),
-    (Call::TableTake, "table take", &[9, 10, 11, 12, 13, 14, 15]),
+    (Call::TableTake, "table take", &[9, 10, 11, 12, 13, 14]),
     (Call::TableExpire, "table expire", &[10, 13]),
-    (Call::TableRead, "table read", &[7, 8, 9, 10, 15]),
+    (Call::TableRead, "table read", &[7, 8, 9, 10]),
     (Call::Expiry, "expiry", &[]),
     (Call::Transmission, "transmission", &[]),
     (Call::Listing, "listing", &[]),
@@ -53,11 +53,82 @@ pub enum Call {
 }
 
 impl Call {
-    /// Whether a refusal may change what was lent.
-    fn changes(self, refusal: u8) -> bool {
-        self == Self::AssemblerStep && matches!(refusal, 5 | 7 | 8)
+    /// Whether the call can give this refusal.
+    fn gives(self, refusal: u8) -> bool {
+        let mut calls = CALLS.iter().filter(|(call, _, _)| *call == self);
+        calls.any(|(_, _, refusals)| refusals.contains(&refusal))
     }
 }
+
+/// What a call answers.
+pub trait Answer: Copy + PartialEq + Debug {
+    fn refusal(&self) -> u8;
+
+    /// Its refusal with all else 0, but for a state that goes on with the next call.
+    fn blank(&self) -> Self;
+}
+
+/// Answers that have a refusal, with the state that goes on.
+macro_rules! answers {
+    ($($name:ident { $($state:ident)? })*) => {$(
+        impl Answer for proved::$name {
+            fn refusal(&self) -> u8 {
+                self.refusal
+            }
+
+            fn blank(&self) -> Self {
+                Self {
+                    refusal: self.refusal,
+                    $($state: self.$state,)?
+                    ..Self::default()
+                }
+            }
+        }
+    )*};
+}
+
+answers! {
+    WordParsed {}
+    WordComposed {}
+    SystemReading {}
+    SystemWritten {}
+    RdsReading {}
+    RdsReceived { run }
+    Written {}
+    AssemblerAnswer { next }
+    FigReading {}
+    DrmReading {}
+    TableAnswer {}
+    TableReading {}
+}
+
+/// The number of a refusal is the whole answer.
+impl Answer for u8 {
+    fn refusal(&self) -> u8 {
+        *self
+    }
+
+    fn blank(&self) -> Self {
+        *self
+    }
+}
+
+/// A call that never refuses.
+macro_rules! unrefused {
+    ($($type:ty)*) => {$(
+        impl Answer for $type {
+            fn refusal(&self) -> u8 {
+                0
+            }
+
+            fn blank(&self) -> Self {
+                *self
+            }
+        }
+    )*};
+}
+
+unrefused!(u16 u64);
 
 #[derive(Default)]
 pub struct Tally {
@@ -75,15 +146,20 @@ pub fn fail(what: &str, input: &dyn Debug, left: &dyn Debug, right: &dyn Debug) 
 }
 
 impl Tally {
-    /// Compares the two programs' answers to one call: the number returned and what was lent. A
-    /// refusal must leave what was lent as at entry.
-    pub fn agree<T: PartialEq + Debug>(
+    /// Compares the two programs' answers to one call that was lent nothing to write to.
+    pub fn agree<A: Answer>(&mut self, call: Call, input: &dyn Debug, proved: A, second: A) {
+        self.agree_lent(call, input, &(), (proved, &()), (second, &()));
+    }
+
+    /// Compares the two programs' answers to one call, and what was lent. A refusal must be one
+    /// that the call can give, leave what was lent as at entry, and answer nothing else.
+    pub fn agree_lent<A: Answer, L: PartialEq + Debug>(
         &mut self,
         call: Call,
         input: &dyn Debug,
-        entry: &T,
-        proved: (u8, &T),
-        second: (u8, &T),
+        entry: &L,
+        proved: (A, &L),
+        second: (A, &L),
     ) {
         if proved != second {
             fail(
@@ -93,14 +169,14 @@ impl Tally {
                 &second,
             );
         }
-        let (refusal, exit) = proved;
-        if refusal != 0 && !call.changes(refusal) && exit != entry {
-            fail(
-                &format!("{call:?}: refusal {refusal} changed what was lent"),
-                input,
-                entry,
-                exit,
-            );
+        let (answer, exit) = proved;
+        let refusal = answer.refusal();
+        if refusal != 0 {
+            let meant = (answer.blank(), entry);
+            if !call.gives(refusal) || (answer, exit) != meant {
+                let what = format!("{call:?}: refusal {refusal} answered, as it must be");
+                fail(&what, input, &proved, &meant);
+            }
         }
         self.count(call, refusal);
     }

@@ -6,7 +6,7 @@ use crate::word::{Head, Word, CONTENT_BITS};
 use crate::Refusal;
 
 /// The most later groups of an open message: the fourth always completes.
-pub const MOST_HELD: usize = MOST_PARTS - 1;
+pub const MOST_TAKEN: usize = MOST_PARTS - 1;
 
 /// A message of which the first group has come.
 #[derive(Clone, Copy, Debug, PartialEq, Eq)]
@@ -18,7 +18,7 @@ pub struct Open {
     pub gsi: u8,
     /// Later groups taken.
     pub count: u8,
-    pub contents: [u32; MOST_HELD],
+    pub contents: [u32; MOST_TAKEN],
 }
 
 /// The state between calls.
@@ -53,7 +53,7 @@ impl Open {
         let turn = if count == 0 {
             self.gsi == 0
         } else {
-            count <= MOST_HELD && self.gsi >= 1 && count + usize::from(self.gsi) <= MOST_PARTS
+            count <= MOST_TAKEN && self.gsi >= 1 && count + usize::from(self.gsi) <= MOST_PARTS
         };
         turn && matches!(self.index, 1..=6)
             && self.head.fits()
@@ -111,7 +111,7 @@ impl Assembler {
                         head,
                         gsi: 0,
                         count: 0,
-                        contents: [0; MOST_HELD],
+                        contents: [0; MOST_TAKEN],
                     }),
                     answer: Answer::Nothing,
                 }

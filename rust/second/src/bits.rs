@@ -3,7 +3,7 @@
 /// Takes runs of bits off the front of bytes.
 pub struct Reader<'a> {
     bytes: std::slice::Iter<'a, u8>,
-    held: u64,
+    pending: u64,
     count: u32,
 }
 
@@ -11,7 +11,7 @@ impl<'a> Reader<'a> {
     pub fn new(bytes: &'a [u8]) -> Self {
         Self {
             bytes: bytes.iter(),
-            held: 0,
+            pending: 0,
             count: 0,
         }
     }
@@ -21,12 +21,12 @@ impl<'a> Reader<'a> {
     pub fn take(&mut self, width: u32) -> u64 {
         while self.count < width {
             let byte = self.bytes.next().copied().unwrap_or(0);
-            self.held = self.held << 8 | u64::from(byte);
+            self.pending = self.pending << 8 | u64::from(byte);
             self.count += 8;
         }
         self.count -= width;
-        let value = self.held >> self.count;
-        self.held &= (1 << self.count) - 1;
+        let value = self.pending >> self.count;
+        self.pending &= (1 << self.count) - 1;
         value
     }
 }
@@ -34,7 +34,7 @@ impl<'a> Reader<'a> {
 /// Puts runs of bits into bytes from the start.
 pub struct Writer<'a> {
     bytes: std::slice::IterMut<'a, u8>,
-    held: u64,
+    pending: u64,
     count: u32,
 }
 
@@ -43,7 +43,7 @@ impl<'a> Writer<'a> {
     pub fn new(bytes: &'a mut [u8]) -> Self {
         Self {
             bytes: bytes.iter_mut(),
-            held: 0,
+            pending: 0,
             count: 0,
         }
     }
@@ -51,27 +51,27 @@ impl<'a> Writer<'a> {
     /// Puts the `width` low bits of `value`, at most 56, with no bit above them set.
     #[inline]
     pub fn put(&mut self, value: u64, width: u32) {
-        self.held = self.held << width | value;
+        self.pending = self.pending << width | value;
         self.count += width;
         while self.count >= 8 {
             self.count -= 8;
-            self.push((self.held >> self.count) as u8);
-            self.held &= (1 << self.count) - 1;
+            self.push((self.pending >> self.count) as u8);
+            self.pending &= (1 << self.count) - 1;
         }
     }
 
     /// Fills the last byte with zero bits.
     pub fn finish(mut self) {
         if self.count > 0 {
-            let last = (self.held << (8 - self.count)) as u8;
+            let last = (self.pending << (8 - self.count)) as u8;
             self.push(last);
         }
     }
 
     #[inline]
     fn push(&mut self, byte: u8) {
-        if let Some(place) = self.bytes.next() {
-            *place = byte;
+        if let Some(next) = self.bytes.next() {
+            *next = byte;
         }
     }
 }

@@ -37,7 +37,7 @@ pub struct Header {
     pub lto: i8,
 }
 
-/// What a unit holds beside its words.
+/// What a unit has beside its words.
 #[derive(Clone, Copy, Debug, PartialEq, Eq)]
 pub struct Unit {
     pub short_id: u8,
@@ -102,11 +102,11 @@ impl Unit {
         require(data[data.len() - 1] & spare == 0, Refusal::Reserved)?;
         let system = system.get_mut(..m).ok_or(Refusal::Buffer)?;
         let words = words.get_mut(..n).ok_or(Refusal::Buffer)?;
-        for place in system {
-            *place = reader.take(16) as u16;
+        for word in system {
+            *word = reader.take(16) as u16;
         }
-        for place in words {
-            *place = reader.take(word::BITS);
+        for word in words {
+            *word = reader.take(word::BITS);
         }
         Ok((
             unit,

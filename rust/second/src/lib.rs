@@ -1,4 +1,5 @@
-//! A second ALERT-C reader, written from the papers alone, to compare the proved one with.
+//! A second ALERT-C reader to compare the proved one with, written from the papers and the decided
+//! points of docs/DECISIONS.md without a look at the proved code.
 //!
 //! Bytes go through a carrier ([`rds`], [`fig`], [`drm`]) to 37-bit [`word`]s, through the
 //! [`assembler`] to a [`report`], and from there into the message [`table`].

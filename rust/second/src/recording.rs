@@ -9,30 +9,30 @@ use crate::rds::{Group, Run};
 use crate::report::Report;
 use crate::Refusal;
 
-/// Bytes of a record's length, which counts what follows it.
+/// Bytes of a frame's length, which counts what follows it.
 const LENGTH: usize = 2;
-/// Bytes of a record's kind.
+/// Bytes of a frame's kind.
 const KIND: usize = 2;
-/// The largest length of a record.
+/// The largest length of a frame.
 pub const MOST_LENGTH: usize = KIND + drm::MOST_BYTES;
 
-/// Kinds of records.
+/// Kinds of frames.
 pub const RDS: u16 = 1;
 pub const FIG: u16 = 2;
 pub const DRM: u16 = 3;
 
 const HEADER: &[u8] = b"no form event location dir extent div dur items\n";
 
-/// A record of the house form.
+/// A frame of the house form.
 #[derive(Clone, Copy, Debug, PartialEq, Eq)]
-pub struct Record<'a> {
+pub struct Frame<'a> {
     pub kind: u16,
     pub body: &'a [u8],
 }
 
-impl<'a> Record<'a> {
-    /// The record at the start of `bytes` and its length in all; refuses 1 a length below 2 or
-    /// above 130 and a cut record.
+impl<'a> Frame<'a> {
+    /// The frame at the start of `bytes` and its length in all; refuses 1 a length below 2 or
+    /// above 130 and a cut frame.
     #[inline]
     pub fn read(bytes: &'a [u8]) -> Result<(Self, usize), Refusal> {
         let length = bytes.first_chunk().ok_or(Refusal::Length)?;
@@ -49,7 +49,7 @@ impl<'a> Record<'a> {
         }
     }
 
-    /// Adds the record to `out`; refuses 9 too long a body.
+    /// Adds the frame to `out`; refuses 9 too long a body.
     pub fn write(&self, out: &mut Vec<u8>) -> Result<(), Refusal> {
         let length = KIND + self.body.len();
         if length > MOST_LENGTH {
@@ -67,17 +67,17 @@ struct Listing<W> {
     out: W,
     run: Run,
     assembler: Assembler,
-    /// Records read.
-    records: u64,
+    /// Frames read.
+    frames: u64,
     /// Reports printed.
     reports: u64,
 }
 
 impl<W: Write> Listing<W> {
     #[inline]
-    fn record(&mut self, record: Record) -> io::Result<()> {
-        match record.kind {
-            RDS => match Group::read(record.body) {
+    fn frame(&mut self, frame: Frame) -> io::Result<()> {
+        match frame.kind {
+            RDS => match Group::read(frame.body) {
                 Ok(group) => {
                     let (run, valid) = self.run.next(group.word);
                     self.run = run;
@@ -90,7 +90,7 @@ impl<W: Write> Listing<W> {
             },
             FIG => {
                 let mut words = [0; fig::MOST_SYSTEM_WORDS];
-                match Fig::read(record.body, &mut words) {
+                match Fig::read(frame.body, &mut words) {
                     Ok((fig, _)) if fig.system => Ok(()),
                     Ok((_, count)) => self.words(&words[..count]),
                     Err(refusal) => self.refusal(refusal),
@@ -99,7 +99,7 @@ impl<W: Write> Listing<W> {
             DRM => {
                 let mut system = [0; drm::MOST_SYSTEM_WORDS];
                 let mut words = [0; drm::MOST_WORDS];
-                match drm::Unit::read(record.body, &mut system, &mut words) {
+                match drm::Unit::read(frame.body, &mut system, &mut words) {
                     Ok((_, counts)) => self.words(&words[..counts.words]),
                     Err(refusal) => self.refusal(refusal),
                 }
@@ -148,7 +148,7 @@ impl<W: Write> Listing<W> {
     fn refusal(&mut self, refusal: Refusal) -> io::Result<()> {
         let mut line = Line::new();
         line.text(b"! ");
-        line.number(self.records);
+        line.number(self.frames);
         line.text(b" ");
         line.number(refusal.number().into());
         self.out.write_all(line.end())
@@ -196,14 +196,14 @@ impl Line {
     }
 }
 
-/// Lists the recording that `input` holds.
+/// Lists the recording that `input` gives.
 pub fn list(mut input: impl Read, output: impl Write) -> io::Result<()> {
     const BUFFER: usize = 1 << 16;
     let mut listing = Listing {
         out: BufWriter::with_capacity(BUFFER, output),
         run: Run::None,
         assembler: Assembler::Empty,
-        records: 0,
+        frames: 0,
         reports: 0,
     };
     listing.out.write_all(HEADER)?;
@@ -211,7 +211,7 @@ pub fn list(mut input: impl Read, output: impl Write) -> io::Result<()> {
     let (mut start, mut end) = (0, 0);
     let mut ended = false;
     loop {
-        // A whole record, unless the input ends before.
+        // A whole frame, unless the input ends before.
         while !ended && end - start < LENGTH + MOST_LENGTH {
             if start > 0 {
                 buffer.copy_within(start..end, 0);
@@ -228,10 +228,10 @@ pub fn list(mut input: impl Read, output: impl Write) -> io::Result<()> {
         if start == end {
             break;
         }
-        listing.records += 1;
-        match Record::read(&buffer[start..end]) {
-            Ok((record, length)) => {
-                listing.record(record)?;
+        listing.frames += 1;
+        match Frame::read(&buffer[start..end]) {
+            Ok((frame, length)) => {
+                listing.frame(frame)?;
                 start += length;
             }
             Err(refusal) => {
@@ -251,7 +251,7 @@ mod tests {
     const GROUP: [u8; 12] = [
         0x0A, 0x00, 0x01, 0x00, 0x52, 0x01, 0x80, 0x0B, 0x50, 0x65, 0x30, 0x39,
     ];
-    const FIG_RECORD: [u8; 16] = [
+    const FIG_FRAME: [u8; 16] = [
         14, 0, 2, 0, 0xAB, 0x09, 0x14, 0x4C, 0x88, 0x0F, 0xA0, 0x90, 0xD4, 0x08, 0x00, 0x00,
     ];
 
@@ -267,7 +267,7 @@ mod tests {
         assert_eq!(listed(&GROUP.repeat(2)), "1 S 101 12345 1 2 0 3 0\n");
         assert_eq!(listed(&GROUP), "");
         assert_eq!(listed(&[]), "");
-        assert_eq!(listed(&FIG_RECORD), "1 M 401 500 0 1 0 2 2\n");
+        assert_eq!(listed(&FIG_FRAME), "1 M 401 500 0 1 0 2 2\n");
     }
 
     #[test]
@@ -285,21 +285,21 @@ mod tests {
 
     #[test]
     fn longer_than_the_buffer() {
-        let input = FIG_RECORD.repeat(10_000);
+        let input = FIG_FRAME.repeat(10_000);
         let output = listed(&input);
         assert_eq!(output.lines().count(), 10_000);
         assert_eq!(output.lines().last(), Some("10000 M 401 500 0 1 0 2 2"));
     }
 
     #[test]
-    fn written_records_read_back() {
+    fn written_frames_read_back() {
         let body = [1; drm::MOST_BYTES];
-        let record = Record {
+        let frame = Frame {
             kind: DRM,
             body: &body,
         };
         let mut out = Vec::new();
-        record.write(&mut out).unwrap();
-        assert_eq!(Record::read(&out), Ok((record, 132)));
+        frame.write(&mut out).unwrap();
+        assert_eq!(Frame::read(&out), Ok((frame, 132)));
     }
 }

@@ -23,7 +23,7 @@ type Record = [u8; RECORD];
 
 const FREE: Record = [0; RECORD];
 
-// Places in a record.
+// Offsets of a record's fields.
 const GROUPS: usize = 1;
 const SID: usize = 2;
 const LTN: usize = 3;
