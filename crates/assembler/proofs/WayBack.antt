@@ -27,7 +27,7 @@ use Rattle.report.specs.declared.Writing.the-variants.{Written, Refused}
 use Rattle.report.specs.Report.{singleReport}
 use Rattle.report.specs.Read.{readReport}
 use Rattle.report.specs.Fits.{singleFits}
-use Rattle.report.specs.Write.{contentsOf, laterWords, singleWords, multiWords, wordsBy, wordsOf, canWrite, placing, placed, writeReport, wordsAfter}
+use Rattle.report.specs.Write.{contentsOf, laterWords, singleWords, multiWords, wordsBy, wordsOf, canWrite, answerFor, bufferAfter, writeReport, wordsAfter}
 use Rattle.report.proofs.Groups.{later-fits}
 use Rattle.report.proofs.Multi.{fit-writable, items-fit, first-fits}
 use Rattle.report.proofs.Forms.{single-fits, multi-fits, multi-index}
@@ -112,13 +112,13 @@ module _ (ci : ℕ) (r : Report) (out : List ℕ) (n : ℕ) (w : writeReport ci 
   was-taken = either (canWrite ci r) (λ e. e) (λ e. absurd (refused-not-written (sym (passed-over _ _ _ e) ∙ w)))
 
   room : leb (length (wordsOf ci r)) (length out) ≡ true
-  unfolding writeReport placing
+  unfolding writeReport answerFor
   room =
       either (leb (length (wordsOf ci r)) (length out)) (λ e. e)
       (λ e. absurd (refused-not-written (sym (chosen _ _ _ was-taken ∙ passed-over _ _ _ e) ∙ w)))
 
   pub written-words : take n (wordsAfter ci r out) ≡ wordsOf ci r
-  unfolding writeReport wordsAfter placing placed
+  unfolding writeReport wordsAfter answerFor bufferAfter
   written-words =
       let ws = wordsOf ci r in
       let same : Written (length ws) ≡ Written n = sym (chosen _ _ _ was-taken ∙ chosen _ _ _ room) ∙ w in

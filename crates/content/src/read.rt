@@ -26,30 +26,30 @@ pub struct Reading {
     pub items: Items,
 }
 
-// Reads the first `length` bits as a message's whole content: 1 for a length that no groups give, 7 where bits of an item are missing, 8 at
+// Reads the first `size` bits as a message's whole content: 1 for a length that no groups give, 7 where bits of an item are missing, 8 at
 // label 15.
-pub fn read(c: Content, length: usize) -> Reading
-    ensures { λ r. ⌜ r ≡ readingOf (content (take length (bitsOf c))) ⌝ }
+pub fn read(c: Content, size: usize) -> Reading
+    ensures { λ r. ⌜ r ≡ readingOf (content (take size (bitsOf c))) ⌝ }
 {
-    if Content::is_length(length) {
-        read_part(c, length)
+    if Content::is_length(size) {
+        read_part(c, size)
     } else {
         Reading::refused(1)
     }
 }
 
-// Reads the first `length` bits as part of a content: 1 if they are more than the longest content has, else as above.
-pub fn read_part(c: Content, length: usize) -> Reading
-    ensures { λ r. ⌜ r ≡ readingOf (contentPart (take length (bitsOf c))) ⌝ }
+// Reads the first `size` bits as part of a content: 1 if they are more than the longest content has, else as above.
+pub fn read_part(c: Content, size: usize) -> Reading
+    ensures { λ r. ⌜ r ≡ readingOf (contentPart (take size (bitsOf c))) ⌝ }
 {
-    if Content::LONGEST < length {
+    if Content::LONGEST < size {
         return Reading::refused(1);
     }
     let mut count = 0;
     let mut cells = [0u16; Items::CELLS];
     let rest = Rest {
         bits: c,
-        left: length,
+        left: size,
     };
     let refused = read_rest(rest, &mut count, &mut cells);
     if refused == 0 {

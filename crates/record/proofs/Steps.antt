@@ -15,7 +15,7 @@ use Rattle.content.specs.declared.content.Content.{Content}
 use Rattle.content.specs.Halves.{bitsOf}
 use Rattle.content.specs.Packing.{longest}
 use Rattle.report.specs.declared.Report.{Report}
-use Rattle.report.specs.declared.Outcome as answer
+use Rattle.report.specs.declared.MessageReading as answer
 use Rattle.report.specs.declared.Answer.the-variants as message
 use Rattle.report.specs.Report.{singleReport}
 use Rattle.report.specs.Read.{readBits, outcomeOf}
@@ -113,7 +113,7 @@ module _ (r : List ℕ) where
   fit-reading e h = chosen _ _ _ (ap₂ (λ (a b : Bool). a && b) (eq-eqb (length r) recordSize e) h)
 
 -- the answer to a message by its outcome
-module _ (x : answer.Outcome) (m : Outcome Report ℕ) (s : Service) (expiry : ℕ) (e : x ≡ outcomeOf m) where
+module _ (x : answer.MessageReading) (m : Outcome Report ℕ) (s : Service) (expiry : ℕ) (e : x ≡ outcomeOf m) where
   pub answered-read : x .answer ≡ message.Read → record { answer = Read; report = x .report; service = s; expiry = expiry } ≡ answered m s expiry
   unfolding answered
   answered-read a = sym (ap (λ (y : Outcome Report ℕ). answered y s expiry) (was-read m x e a))

@@ -18,7 +18,7 @@ use crate::fields::service;
 use crate::test::fits;
 use bits::bytes::load;
 use content::content::Content;
-use report::Outcome;
+use report::MessageReading;
 use report::Report;
 
 // The report of a record with its service and expiry, or that it is free. Bytes that are not one well-formed record are refused (10), then
@@ -63,14 +63,14 @@ pub fn nothing(answer: Answer) -> Reading
     }
 }
 
-fn message(r: &[u8]) -> Outcome
+fn message(r: &[u8]) -> MessageReading
     requires { ⌜ (length (now r) ≡ recordSize) × (1 ≤ groupsIn (now r)) × (groupsIn (now r) ≤ 5) ⌝ }
     ensures { λ x. ⌜ x ≡ outcomeOf (messageIn (now (r .entry))) ⌝ }
 {
     let groups = r[Record::GROUPS] as usize;
     let head = head(r);
     if groups == 1 {
-        Outcome {
+        MessageReading {
             answer: report::Answer::Read,
             report: Report::single(r[Record::DURATION], r[Record::DIVERSION], head),
         }

@@ -11,7 +11,7 @@ use Rattle.report.specs.declared.Form.{Form}
 use Rattle.report.specs.declared.Form.the-variants.{Single, Multi}
 use Rattle.report.specs.declared.Writing.the-variants.{Refused}
 use Rattle.report.specs.Fits.{singleFits, multiFits, fitsBy, reportFits, indexFits}
-use Rattle.report.specs.Write.{singleWords, multiWords, wordsBy, wordsOf, canWrite, placing, placed, writeReport, wordsAfter}
+use Rattle.report.specs.Write.{singleWords, multiWords, wordsBy, wordsOf, canWrite, answerFor, bufferAfter, writeReport, wordsAfter}
 
 module _ (ci : ℕ) (r : Report) where
   module _ (ok : canWrite ci r ≡ true) where
@@ -31,16 +31,16 @@ module _ (ci : ℕ) (r : Report) where
     unfolding canWrite indexFits
     multi-index e = sym (ap (λ (f : Form). indexFits f ci) e) ∙ and-right (reportFits r) (indexFits (r .form) ci) ok
 
-    written : (ws out : List ℕ) → wordsOf ci r ≡ ws → (placing ws (length out) ≡ writeReport ci r (length out)) × (placed ws out ≡ wordsAfter ci r out)
+    written : (ws out : List ℕ) → wordsOf ci r ≡ ws → (answerFor ws (length out) ≡ writeReport ci r (length out)) × (bufferAfter ws out ≡ wordsAfter ci r out)
     unfolding writeReport wordsAfter
     written ws out e =
-        (ap (λ (l : List ℕ). placing l (length out)) (sym e) ∙ sym (chosen _ _ _ ok), ap (λ (l : List ℕ). placed l out) (sym e) ∙ sym (chosen _ _ _ ok))
+        (ap (λ (l : List ℕ). answerFor l (length out)) (sym e) ∙ sym (chosen _ _ _ ok), ap (λ (l : List ℕ). bufferAfter l out) (sym e) ∙ sym (chosen _ _ _ ok))
 
-    pub single-written : (out : List ℕ) → r .form ≡ Single → (placing (singleWords r) (length out) ≡ writeReport ci r (length out)) × (placed (singleWords r) out ≡ wordsAfter ci r out)
+    pub single-written : (out : List ℕ) → r .form ≡ Single → (answerFor (singleWords r) (length out) ≡ writeReport ci r (length out)) × (bufferAfter (singleWords r) out ≡ wordsAfter ci r out)
     unfolding wordsOf wordsBy
     single-written out e = written (singleWords r) out (ap (λ (f : Form). wordsBy f ci r) e)
 
-    pub multi-written : (out : List ℕ) → r .form ≡ Multi → (placing (multiWords ci r) (length out) ≡ writeReport ci r (length out)) × (placed (multiWords ci r) out ≡ wordsAfter ci r out)
+    pub multi-written : (out : List ℕ) → r .form ≡ Multi → (answerFor (multiWords ci r) (length out) ≡ writeReport ci r (length out)) × (bufferAfter (multiWords ci r) out ≡ wordsAfter ci r out)
     unfolding wordsOf wordsBy
     multi-written out e = written (multiWords ci r) out (ap (λ (f : Form). wordsBy f ci r) e)
 

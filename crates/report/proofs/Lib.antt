@@ -2,7 +2,7 @@ pub mod Searching
 pub mod Messages
 pub mod Tests
 pub mod Groups
-pub mod Placing
+pub mod Buffer
 pub mod Multi
 pub mod Forms
 pub mod Kept

@@ -10,7 +10,7 @@ use Rattle.content.specs.Content.{content}
 use Rattle.content.specs.Packing.{groupBits}
 use Rattle.report.specs.declared.Report.{Report}
 use Rattle.report.specs.declared.Answer.the-variants.{Read, Refused}
-use Rattle.report.specs.declared.Outcome as declared
+use Rattle.report.specs.declared.MessageReading.{MessageReading}
 use Rattle.report.specs.Report.{multiReport, blank}
 
 -- a head and content bits: the report, or the refusal's number
@@ -22,6 +22,6 @@ unfoldable pub readReport : Head → List ℕ → Outcome Report ℕ
 readReport h contents = readBits h (flat groupBits contents)
 
 -- how the code answers a message; the report is blank on a refusal
-unfoldable pub outcomeOf : Outcome Report ℕ → declared.Outcome
+unfoldable pub outcomeOf : Outcome Report ℕ → MessageReading
 outcomeOf (gives r) = record { answer = Read; report = r }
 outcomeOf (refused n) = record { answer = Refused n; report = blank }

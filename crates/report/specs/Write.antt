@@ -48,8 +48,8 @@ unfoldable pub canWrite : ℕ → Report → Bool
 canWrite ci r = reportFits r && indexFits (r .form) ci
 
 -- words into the first cells of a buffer: 15 where there are too few cells, else the number of words
-unfoldable pub placing : List ℕ → ℕ → Writing
-placing ws room = cond (leb (length ws) room) (Written (length ws)) (Refused 15)
+unfoldable pub answerFor : List ℕ → ℕ → Writing
+answerFor ws room = cond (leb (length ws) room) (Written (length ws)) (Refused 15)
 
 -- what the answer tells: the number of words written, 0 on a refusal, and the refusal's number, 0 where there is none
 abbrev pub countIn : Writing → ℕ
@@ -61,13 +61,13 @@ refusalIn (Written n) = 0
 refusalIn (Refused n) = n
 
 -- the buffer afterwards: the words first and later cells as they were; all as they were where there are too few
-unfoldable pub placed : List ℕ → List ℕ → List ℕ
-placed ws out = cond (leb (length ws) (length out)) (ws ++ drop (length ws) out) out
+unfoldable pub bufferAfter : List ℕ → List ℕ → List ℕ
+bufferAfter ws out = cond (leb (length ws) (length out)) (ws ++ drop (length ws) out) out
 
 -- refusal 9 for what is not to be written, then 15 for too small a buffer
 unfoldable pub writeReport : ℕ → Report → ℕ → Writing
-writeReport ci r room = cond (canWrite ci r) (placing (wordsOf ci r) room) (Refused 9)
+writeReport ci r room = cond (canWrite ci r) (answerFor (wordsOf ci r) room) (Refused 9)
 
 -- a refusal leaves the buffer
 unfoldable pub wordsAfter : ℕ → Report → List ℕ → List ℕ
-wordsAfter ci r out = cond (canWrite ci r) (placed (wordsOf ci r) out) out
+wordsAfter ci r out = cond (canWrite ci r) (bufferAfter (wordsOf ci r) out) out

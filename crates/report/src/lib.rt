@@ -29,7 +29,7 @@ pub enum Answer {
 }
 
 // The answer, and the report beside it: blank on a refusal.
-pub struct Outcome {
+pub struct MessageReading {
     pub answer: Answer,
     pub report: Report,
 }

@@ -10,7 +10,7 @@ ghost use Rattle.report.specs.Report.{singleReport, multiReport, blank a
 ghost use Rattle.report.specs.Read.{readBits, outcomeOf};
 use crate::Answer;
 use crate::Form;
-use crate::Outcome;
+use crate::MessageReading;
 use crate::Report;
 use content::content::Content;
 use content::items::Items;
@@ -47,20 +47,20 @@ impl Report {
         }
     }
 
-    // The report of a multi-group message, from its head and the first `length` content bits: refusals 1, 7 and 8 as content is
+    // The report of a multi-group message, from its head and the first `size` content bits: refusals 1, 7 and 8 as content is
     // read.
-    pub fn multi(head: Head, content: Content, length: usize) -> Outcome
-        ensures { λ r. ⌜ r ≡ outcomeOf (readBits head (take length (bitsOf content))) ⌝ }
+    pub fn multi(head: Head, content: Content, size: usize) -> MessageReading
+        ensures { λ r. ⌜ r ≡ outcomeOf (readBits head (take size (bitsOf content))) ⌝ }
     {
-        let reading = content::read::read(content, length);
+        let reading = content::read::read(content, size);
         let answer = reading.answer;
         let items = reading.items;
         match answer {
-            ReadAnswer::Read => Outcome {
+            ReadAnswer::Read => MessageReading {
                 answer: Answer::Read,
                 report: of_items(head, items),
             },
-            ReadAnswer::Refused(n) => Outcome {
+            ReadAnswer::Refused(n) => MessageReading {
                 answer: Answer::Refused(n),
                 report: Report::new(),
             },

@@ -8,7 +8,7 @@ ghost use Rattle.content.specs.Packing.{groupBits};
 ghost use Rattle.bits.specs.Fields.{words};
 ghost use Rattle.word.specs.Compose.{isIndex};
 ghost use Rattle.report.specs.Fits.{singleFits, multiFits};
-ghost use Rattle.report.specs.Write.{writeReport, wordsAfter, placing, placed, singleWords, laterWords, multiWords};
+ghost use Rattle.report.specs.Write.{writeReport, wordsAfter, answerFor, bufferAfter, singleWords, laterWords, multiWords};
 use crate::Form;
 use crate::Report;
 use crate::Writing;
@@ -40,8 +40,8 @@ impl Report {
 
 fn write_single(r: Report, out: &mut [u64]) -> Writing
     requires { ⌜ singleFits r ≡ true ⌝ }
-    ensures { λ w. ⌜ w ≡ placing (singleWords r) (length (now (out .entry))) ⌝ }
-    ensures { λ _. ⌜ now (out .exit) ≡ placed (singleWords r) (now (out .entry)) ⌝ }
+    ensures { λ w. ⌜ w ≡ answerFor (singleWords r) (length (now (out .entry))) ⌝ }
+    ensures { λ _. ⌜ now (out .exit) ≡ bufferAfter (singleWords r) (now (out .entry)) ⌝ }
 {
     if 1 <= out.len() {
         out[0] = single_number(r.duration, r.diversion, r.head);
@@ -53,8 +53,8 @@ fn write_single(r: Report, out: &mut [u64]) -> Writing
 
 fn write_multi(r: Report, ci: u8, out: &mut [u64]) -> Writing
     requires { ⌜ (multiFits r ≡ true) × (isIndex ci ≡ true) ⌝ }
-    ensures { λ w. ⌜ w ≡ placing (multiWords ci r) (length (now (out .entry))) ⌝ }
-    ensures { λ _. ⌜ now (out .exit) ≡ placed (multiWords ci r) (now (out .entry)) ⌝ }
+    ensures { λ w. ⌜ w ≡ answerFor (multiWords ci r) (length (now (out .entry))) ⌝ }
+    ensures { λ _. ⌜ now (out .exit) ≡ bufferAfter (multiWords ci r) (now (out .entry)) ⌝ }
 {
     let packed = pack(r.items);
     let answer = packed.answer;

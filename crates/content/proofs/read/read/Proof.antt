@@ -14,16 +14,16 @@ returns : tie.Need-returns
 returns c =
     let b = c .before .before in
     let a = b .before .args in
-    let l = take (a .length) (bitsOf (a .c)) in
-    let h = contentLength-take (a .length) (bitsOf (a .c)) (length-bitsOf (a .c)) ∙ sym (b .is-length .ensures) ∙ c .before .if1 .taken in
+    let l = take (a .size) (bitsOf (a .c)) in
+    let h = contentLength-take (a .size) (bitsOf (a .c)) (length-bitsOf (a .c)) ∙ sym (b .is-length .ensures) ∙ c .before .if1 .taken in
     c .read-part .ensures ∙ ap readingOf (whole-is-part l h)
 
 returns-2 : tie.Need-returns-2
 returns-2 c =
     let b = c .before .before in
     let a = b .before .args in
-    let l = take (a .length) (bitsOf (a .c)) in
-    let h = contentLength-take (a .length) (bitsOf (a .c)) (length-bitsOf (a .c)) ∙ sym (b .is-length .ensures) ∙ c .before .if1 .left in
+    let l = take (a .size) (bitsOf (a .c)) in
+    let h = contentLength-take (a .size) (bitsOf (a .c)) (length-bitsOf (a .c)) ∙ sym (b .is-length .ensures) ∙ c .before .if1 .left in
     c .refused .ensures ∙ ap readingOf (sym (content-refused l h))
 
 pub read-spec : {M : Type 1} → statement M

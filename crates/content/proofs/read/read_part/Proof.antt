@@ -33,7 +33,7 @@ from-none c n h =
 returns : tie.Need-returns
 returns c =
     let a = c .before .before .args in
-    c .refused .ensures ∙ ap readingOf (sym (part-refused (take (a .length) (bitsOf (a .c))) (omega (arith, length-take (a .length) (bitsOf (a .c)), length-bitsOf (a .c), c .before .if1 .taken))))
+    c .refused .ensures ∙ ap readingOf (sym (part-refused (take (a .size) (bitsOf (a .c))) (omega (arith, length-take (a .size) (bitsOf (a .c)), length-bitsOf (a .c), c .before .if1 .taken))))
 
 read-rest-requires : tie.Need-read-rest-requires
 read-rest-requires c κs = (refl, omega arith, refilled [] (inCells 0 (replicate (2 * limit) 0)) none-in-cells)
@@ -45,7 +45,7 @@ returns-2 c =
     let b = c .before .before .before .before .before .before in
     ap (λ (s : Items). let x : read.Reading = record { answer = readAnswer.Read; items = s } in x) (c .from-cells .ensures)
     ∙ told-read (r .result) (inCells (r .last .1 .0) (r .last .1 .1 .0)) _ (r .ensures .1) (c .before .before .if2 .taken)
-    ∙ ap readingOf (from-none (b .before .args .c) (b .before .args .length) (b .if1 .left))
+    ∙ ap readingOf (from-none (b .before .args .c) (b .before .args .size) (b .if1 .left))
 
 returns-3 : tie.Need-returns-3
 unfolding remaining
@@ -53,7 +53,7 @@ returns-3 c =
     let r = c .before .before .read-rest in
     let b = c .before .before .before .before .before in
     c .refused2 .ensures
-    ∙ ap readingOf (told-refused (r .result) (inCells (r .last .1 .0) (r .last .1 .1 .0)) _ (r .ensures .1) (c .before .if2 .left) ∙ from-none (b .before .args .c) (b .before .args .length) (b .if1 .left))
+    ∙ ap readingOf (told-refused (r .result) (inCells (r .last .1 .0) (r .last .1 .1 .0)) _ (r .ensures .1) (c .before .if2 .left) ∙ from-none (b .before .args .c) (b .before .args .size) (b .if1 .left))
 
 pub read-part-spec : {M : Type 1} → statement M
 read-part-spec =

@@ -19,7 +19,7 @@ enum-told c = search needs
 of-items-requires : tie.Need-of-items-requires
 of-items-requires c κs =
     let a = c .before .before .before .before .args in
-    let l = take (a .length) (bitsOf (a .content)) in
+    let l = take (a .size) (bitsOf (a .content)) in
     let r = c .before .before .before .read in
     let h = read-items l (r .result) (r .ensures) (c .enum-told .given .1) in
     (items-count l (r .result .items) h, items-fit l (r .result .items) h, items-filled l (r .result .items) h)
@@ -28,7 +28,7 @@ returns : tie.Need-returns
 unfolding outcomeOf readBits
 returns c =
     let a = c .before .before .before .before .before .args in
-    let l = take (a .length) (bitsOf (a .content)) in
+    let l = take (a .size) (bitsOf (a .content)) in
     let r = c .before .before .before .before .read in
     let h = read-items l (r .result) (r .ensures) (c .before .enum-told .given .1) in
     ap (λ (x : Report). record { answer = Read; report = x }) (c .of-items .ensures ∙ ap (multiReport (a .head)) (items-listed l (r .result .items) h))
@@ -38,7 +38,7 @@ returns-2 : tie.Need-returns-2
 unfolding outcomeOf readBits
 returns-2 c =
     let a = c .before .before .before .before .before .before .args in
-    let l = take (a .length) (bitsOf (a .content)) in
+    let l = take (a .size) (bitsOf (a .content)) in
     let r = c .before .before .before .before .before .read in
     rw (c .new .ensures) (sym (ap (λ (x : Reading). outcomeOf (mapped (multiReport (a .head)) x)) (read-refused l (r .result) _ (r .ensures) (c .before .before .answer .given .1))))
 

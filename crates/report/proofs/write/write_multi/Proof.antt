@@ -14,7 +14,7 @@ use Rattle.content.specs.Answers.{packedOf, bitsPacked}
 use Rattle.report.specs.declared.Report.{Report}
 use Rattle.report.specs.declared.Writing.the-variants.{Written}
 use Rattle.report.specs.Write.{laterWords, multiWords}
-use Rattle.report.proofs.Placing.{first-and-more, placed-all, no-room}
+use Rattle.report.proofs.Buffer.{first-and-more, with-room, no-room}
 use Rattle.report.proofs.Multi.{first-fits, few, multi-is, length-multi}
 use borrow.Author.Needs.{needs}
 use Rattle.report.proofs.write.write_multi.Statement.{statement}
@@ -66,7 +66,7 @@ returns c =
     let k = counted _ r _ _ p (g .before .bits .ensures) (g .groups .ensures) in
     let size = length-take-le (m - 1) (drop 1 (set out 0 x)) (omega (arith, length-drop 1 (set out 0 x), length-set out 0 x)) in
     let n : m ≡ length (multiWords ci r) = k ∙ sym (length-multi ci r (b .pre .0)) in
-    let all = placed-all (multiWords ci r) out (omega arith) in
+    let all = with-room (multiWords ci r) out (omega arith) in
     let j : suc (m - 1) ≡ m = omega (arith, k) in
     let ys = c .before .before .put-later .last .1 .1 .0 in
     let made : x ∷ ys ≡ multiWords ci r =

@@ -6,7 +6,7 @@ use lib.ListN.{drop}
 use Rattle.bits.proofs.Choice.{and-left}
 use Rattle.report.specs.Fits.{singleFits}
 use Rattle.report.specs.Write.{singleWords}
-use Rattle.report.proofs.Placing.{set-first, placed-all, no-room}
+use Rattle.report.proofs.Buffer.{set-first, with-room, no-room}
 use borrow.Author.Needs.{needs}
 use Rattle.report.proofs.write.write_single.Statement.{statement}
 use Rattle.report.proofs.write.write_single.Tie as tie
@@ -20,7 +20,7 @@ unfolding singleWords
 returns c =
     let a = c .before .before .before .args in
     let room = c .before .if1 .taken in
-    let all = placed-all (singleWords (a .r)) (a .out .now) room in
+    let all = with-room (singleWords (a .r)) (a .out .now) room in
     (all .0, set-first (a .out .now) (c .single-number .result) room ∙ ap (λ (x : ℕ). x ∷ drop 1 (a .out .now)) (c .single-number .ensures) ∙ all .1)
 
 returns-2 : tie.Need-returns-2

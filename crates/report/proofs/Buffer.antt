@@ -8,7 +8,7 @@ use borrow.Rule.Slice.PartMut.{putMid}
 use borrow.Author.Tests.{le-leb, lt-leb}
 use Rattle.bits.proofs.Choice.{chosen, passed-over}
 use Rattle.report.specs.declared.Writing.the-variants.{Written, Refused}
-use Rattle.report.specs.Write.{placing, placed}
+use Rattle.report.specs.Write.{answerFor, bufferAfter}
 
 -- a word in the first cell
 pub set-first : (out : List ℕ) (x : ℕ) → 1 ≤ length out → set out 0 x ≡ x ∷ drop 1 out
@@ -21,10 +21,10 @@ first-and-more [] x m k ys h e = absurd (omega arith)
 first-and-more (y ∷ out) x m k ys h e = ap (λ (n : ℕ). x ∷ (ys ++ drop n out)) e
 
 module _ (ws out : List ℕ) where
-  pub placed-all : length ws ≤ length out → (Written (length ws) ≡ placing ws (length out)) × (ws ++ drop (length ws) out ≡ placed ws out)
-  unfolding placing placed
-  placed-all h = let room = le-leb (length ws) (length out) h in (sym (chosen _ _ _ room), sym (chosen _ _ _ room))
+  pub with-room : length ws ≤ length out → (Written (length ws) ≡ answerFor ws (length out)) × (ws ++ drop (length ws) out ≡ bufferAfter ws out)
+  unfolding answerFor bufferAfter
+  with-room h = let room = le-leb (length ws) (length out) h in (sym (chosen _ _ _ room), sym (chosen _ _ _ room))
 
-  pub no-room : length out < length ws → (Refused 15 ≡ placing ws (length out)) × (out ≡ placed ws out)
-  unfolding placing placed
+  pub no-room : length out < length ws → (Refused 15 ≡ answerFor ws (length out)) × (out ≡ bufferAfter ws out)
+  unfolding answerFor bufferAfter
   no-room h = let room = lt-leb (length ws) (length out) h in (sym (passed-over _ _ _ room), sym (passed-over _ _ _ room))
