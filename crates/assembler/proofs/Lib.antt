@@ -2,6 +2,7 @@ pub mod States
 pub mod Turns
 pub mod Joins
 pub mod CallSteps
+pub mod Advances
 pub mod Refusals
 pub mod Demand3
 pub mod Reached

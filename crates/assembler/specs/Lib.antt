@@ -7,3 +7,4 @@ pub mod Calls
 pub mod Demand3
 pub mod WayBack
 pub mod Samples
+pub mod Advance

@@ -13,8 +13,7 @@ use crate::Answer;
 use crate::Assembler;
 use crate::Partial;
 use crate::Step;
-use crate::join::joined;
-use content::content::Content;
+use crate::join::read_whole;
 use report::Report;
 use word::Word;
 
@@ -102,10 +101,9 @@ fn completed(p: Partial, content: u32) -> Step
     requires { ⌜ partialFits p ≡ true ⌝ }
     ensures { λ r. ⌜ r ≡ given (Step·completed (readReport (p .head) (contentsOf p ++ content ∷ []))) ⌝ }
 {
-    let bits = joined(p, content);
-    let outcome = Report::multi(p.head, bits, Content::GROUP * (p.count as usize + 1));
-    let answer = outcome.answer;
-    let report = outcome.report;
+    let reading = read_whole(p, content);
+    let answer = reading.answer;
+    let report = reading.report;
     match answer {
         report::Answer::Read => with_report(report),
         report::Answer::Refused(n) => without_report(Assembler::Empty, Answer::Refused(n)),

@@ -1,4 +1,5 @@
 // The assembler: 37-bit words in the order heard, one call each, and the reports of the messages that they make up.
+mod advancing;
 mod call;
 mod fits;
 mod join;
@@ -46,4 +47,10 @@ pub struct Step {
     pub next: Assembler,
     pub answer: Answer,
     pub report: Report,
+}
+
+// The next state, and whether the word is taken.
+pub struct Advance {
+    pub next: Assembler,
+    pub taken: bool,
 }

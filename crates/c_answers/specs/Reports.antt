@@ -1,11 +1,14 @@
 -- What the calls on reports and the assembler answer (include/alertc.h): on a refusal its number, and 0 elsewhere.
+use Prim.Native.Nat.{ℕ}
+use Rattle.report.specs.declared.Report.{Report}
 use Rattle.report.specs.declared.Writing.{Writing}
+use Rattle.report.specs.Report.{blank}
 use Rattle.report.specs.Write as writing
 use Rattle.assembler.specs.declared.Partial.{Partial}
 use Rattle.assembler.specs.declared.Answer.{Answer}
+use Rattle.assembler.specs.declared.Answer.the-variants as answers
 use Rattle.assembler.specs.Answers as answer
 use Rattle.assembler.specs.declared.Step.{Step}
-use Rattle.c_values.specs.declared.reports.PlainReport.{PlainReport}
 use Rattle.c_values.specs.Reports.{plainOf}
 use Rattle.c_values.specs.States.{stateOf}
 use Rattle.c_answers.specs.declared.reports.Written.{Written}
@@ -14,9 +17,22 @@ use Rattle.c_answers.specs.declared.reports.AssemblerAnswer.{AssemblerAn
 abbrev pub reportWritten : Writing → Written
 reportWritten w = record { count = writing.countIn w; refusal = writing.refusalIn w }
 
+-- the report where the answer is one, else the blank one
+unfoldable pub reportBeside : Answer → Report → Report
+reportBeside answers.Nothing r = blank
+reportBeside answers.Report r = r
+reportBeside (answers.Tuning n) r = blank
+reportBeside (answers.Administration n) r = blank
+reportBeside (answers.Refused n) r = blank
+
 -- a report, a next state, and what the answer tells
-unfoldable pub answerWith : PlainReport → Partial → Answer → AssemblerAnswer
-answerWith r p a = record { report = r; next = p; word = answer.wordIn a; kind = answer.kindIn a; refusal = answer.refusalIn a }
+unfoldable pub answerWith : Report → Partial → Answer → AssemblerAnswer
+answerWith r p a =
+    record { report = plainOf (reportBeside a r); next = p; word = answer.wordIn a; kind = answer.kindIn a; refusal = answer.refusalIn a }
+
+-- an answer with no report
+abbrev pub withoutReport : Partial → (word kind refusal : ℕ) → AssemblerAnswer
+withoutReport p word kind refusal = record { report = plainOf blank; next = p; word = word; kind = kind; refusal = refusal }
 
 abbrev pub stepAnswer : Step → AssemblerAnswer
-stepAnswer s = answerWith (plainOf (s .report)) (stateOf (s .next)) (s .answer)
+stepAnswer s = answerWith (s .report) (stateOf (s .next)) (s .answer)

@@ -1,11 +1,12 @@
 // Reports and the assembler.
 ghost use mathlib.Core.Path.{_≡_};
-ghost use Rattle.c_answers.specs.Reports.{reportWritten, stepAnswer};
+ghost use Rattle.c_answers.specs.Reports.{reportWritten, withoutReport, stepAnswer};
 use assembler::Answer;
 use assembler::Partial;
 use assembler::Step;
 use c_values::reports::PlainReport;
 use c_values::states::state_of;
+use report::Report;
 use report::Writing;
 
 // How many words or bytes were written into the lent buffer.
@@ -36,39 +37,39 @@ pub struct AssemblerAnswer {
 }
 
 impl AssemblerAnswer {
+    // The report is looked at only where there is one.
     pub fn of(step: Step) -> Self
         ensures { λ r. ⌜ r ≡ stepAnswer step ⌝ }
     {
-        let report = step.report;
         let next = step.next;
         let answer = step.answer;
-        let mut r = AssemblerAnswer {
-            report: PlainReport::of(report),
-            next: state_of(next),
-            word: 0,
-            kind: 0,
-            refusal: 0,
-        };
         match answer {
-            Answer::Nothing => r,
+            Answer::Nothing => without_report(state_of(next), 0, 0, 0),
             Answer::Report => {
-                r.kind = 1;
-                r
+                let report = step.report;
+                AssemblerAnswer {
+                    report: PlainReport::of(report),
+                    next: state_of(next),
+                    word: 0,
+                    kind: 1,
+                    refusal: 0,
+                }
             }
-            Answer::Tuning(word) => {
-                r.kind = 2;
-                r.word = word;
-                r
-            }
-            Answer::Administration(word) => {
-                r.kind = 3;
-                r.word = word;
-                r
-            }
-            Answer::Refused(n) => {
-                r.refusal = n;
-                r
-            }
+            Answer::Tuning(word) => without_report(state_of(next), word, 2, 0),
+            Answer::Administration(word) => without_report(state_of(next), word, 3, 0),
+            Answer::Refused(n) => without_report(state_of(next), 0, 0, n),
         }
+    }
+}
+
+fn without_report(next: Partial, word: u64, kind: u8, refusal: u8) -> AssemblerAnswer
+    ensures { λ r. ⌜ r ≡ withoutReport next word kind refusal ⌝ }
+{
+    AssemblerAnswer {
+        report: PlainReport::of(Report::new()),
+        next,
+        word,
+        kind,
+        refusal,
     }
 }

@@ -9,7 +9,8 @@ use Rattle.word.specs.Samples.{single101, first401, later401}
 use Rattle.assembler.proofs.Examples.{computing}
 use Rattle.crc.specs.Register.{shifted, entered, checkWord}
 use Rattle.lto.specs.Offset.{ltoField}
-use Rattle.messages.specs.Messages.{isEmpty, isTaken, begins, passes, wholeFrom}
+use Rattle.assembler.specs.Advance.{isTaken}
+use Rattle.messages.specs.Messages.{isEmpty, begins, passes, wholeFrom}
 use Rattle.drm.specs.declared.DataUnit as drm
 use Rattle.drm.proofs.Examples.{headed}
 use Rattle.drm_write.specs.declared.Writing.the-variants as written

@@ -25,7 +25,8 @@ use Rattle.assembler.specs.Fits.{fits}
 use Rattle.assembler.specs.Answers.{answerOf, given}
 use Rattle.assembler.specs.Step.{stepOf}
 use Rattle.assembler.proofs.CallSteps.{taking}
-use Rattle.messages.specs.Messages.{isTaken, begins}
+use Rattle.assembler.specs.Advance.{isTaken}
+use Rattle.messages.specs.Messages.{begins}
 
 -- the message is still open, or reported
 abbrev Continues : Partial → Step → Type 0

@@ -21,7 +21,8 @@ use Rattle.assembler.specs.declared.Step.{Step}
 use Rattle.assembler.specs.Step.{stepOf}
 use Rattle.assembler.specs.Calls.{calls, after}
 use Rattle.assembler.proofs.Refusals.{no-word-refused}
-use Rattle.messages.specs.Messages.{isEmpty, isTaken, begins, passes, wholeFrom, whole}
+use Rattle.assembler.specs.Advance.{isTaken}
+use Rattle.messages.specs.Messages.{isEmpty, begins, passes, wholeFrom, whole}
 use Rattle.messages.specs.Whole.{Whole}
 
 -- a call that was not refused, and a state with no open message

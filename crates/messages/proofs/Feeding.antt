@@ -14,21 +14,10 @@ use Rattle.word.proofs.Word as word
 use Rattle.report.specs.declared.Report.{Report}
 use Rattle.transmission.specs.Reading.{ReadsMulti}
 use Rattle.assembler.specs.declared.Assembler.{Assembler}
-use Rattle.assembler.specs.declared.Answer.{Answer}
-use Rattle.assembler.specs.declared.Answer.the-variants as answer
-use Rattle.assembler.specs.declared.Step.{Step}
+use Rattle.assembler.specs.declared.Advance.{Advance}
 use Rattle.assembler.specs.Step.{stepOf}
-use Rattle.assembler.proofs.Answer as answers
-use Rattle.messages.specs.Messages.{isEmpty, isTaken, begins, passes, wholeFrom}
-
--- an answer of another variant than a refusal's
-pub no-refusal : (a : Answer) → OneOf (0 ∷ 1 ∷ 2 ∷ 3 ∷ []) (tagOf answers.the-type a) → isTaken a ≡ true
-unfolding isTaken
-no-refusal answer.Nothing k = refl
-no-refusal answer.Report k = refl
-no-refusal (answer.Tuning n) k = refl
-no-refusal (answer.Administration n) k = refl
-no-refusal (answer.Refused n) k = absurd (miss (0 ∷ 1 ∷ 2 ∷ 3 ∷ []) 4 tt k)
+use Rattle.assembler.specs.Advance.{advanceOf}
+use Rattle.messages.specs.Messages.{isEmpty, begins, passes, wholeFrom}
 
 -- a word of another variant than a single group's and a first group's
 pub no-beginning : (w : Word) → OneOf (2 ∷ 3 ∷ 4 ∷ 5 ∷ 6 ∷ []) (tagOf word.the-type w) → begins w ≡ false
@@ -41,16 +30,16 @@ no-beginning (Administration n) k = refl
 no-beginning (Index7 n) k = refl
 no-beginning (Beyond n) k = refl
 
--- the first word decides, by what was found of the state, of the word's kind k and of the step s, and then the rest
-pub whole-next : (read : ReadsMulti Report) (a : Assembler) (ws : List ℕ) (i : ℕ) (e b t v : Bool) (k : Word) (s : Step) → i < length ws
-    → e ≡ isEmpty a → k ≡ kindOf (getD ws i 0) → b ≡ begins k → s ≡ stepOf read a (getD ws i 0) → t ≡ isTaken (s .answer) → (e || not b) && t ≡ v
+-- the first word decides, by what was found of the state, of the word's kind k and of what it does, and then the rest
+pub whole-next : (read : ReadsMulti Report) (a : Assembler) (ws : List ℕ) (i : ℕ) (e b v : Bool) (k : Word) (s : Advance) → i < length ws
+    → e ≡ isEmpty a → k ≡ kindOf (getD ws i 0) → b ≡ begins k → s ≡ advanceOf (stepOf read a (getD ws i 0)) → (e || not b) && s .taken ≡ v
     → wholeFrom read a (drop i ws) ≡ v && wholeFrom read (s .next) (drop (suc i) ws)
 unfolding wholeFrom passes
-whole-next read a ws i e b t v k s h he hk hb hs ht hv =
+whole-next read a ws i e b v k s h he hk hb hs hv =
     let n = getD ws i 0 in
     let same : passes read a n ≡ v =
-    sym (ap₂ (λ (x y : Bool). (x || not y) && t) he (hb ∙ ap begins hk)
-    ∙ ap (λ (x : Bool). (isEmpty a || not (begins (kindOf n))) && x) (ht ∙ ap (λ (x : Step). isTaken (x .answer)) hs))
+    sym (ap₂ (λ (x y : Bool). (x || not y) && s .taken) he (hb ∙ ap begins hk)
+    ∙ ap (λ (x : Advance). (isEmpty a || not (begins (kindOf n))) && x .taken) hs)
     ∙ hv in
     ap (wholeFrom read a) (drop-cons ws i 0 h)
-    ∙ ap₂ (λ (x : Bool) (y : Step). x && wholeFrom read (y .next) (drop (suc i) ws)) same (sym hs)
+    ∙ ap₂ (λ (x : Bool) (y : Advance). x && wholeFrom read (y .next) (drop (suc i) ws)) same (sym hs)

@@ -10,22 +10,13 @@ use Rattle.report.specs.declared.Report.{Report}
 use Rattle.transmission.specs.Reading.{ReadsMulti}
 use Rattle.assembler.specs.declared.Assembler.{Assembler}
 use Rattle.assembler.specs.declared.Assembler.the-variants.{Empty, Started}
-use Rattle.assembler.specs.declared.Answer.{Answer}
-use Rattle.assembler.specs.declared.Answer.the-variants as answer
 use Rattle.assembler.specs.Step.{stepOf}
+use Rattle.assembler.specs.Advance.{isTaken}
 
 -- no message is open
 unfoldable pub isEmpty : Assembler → Bool
 isEmpty Empty = true
 isEmpty (Started p) = false
-
--- an answer that is no refusal
-unfoldable pub isTaken : Answer → Bool
-isTaken answer.Nothing = true
-isTaken answer.Report = true
-isTaken (answer.Tuning n) = true
-isTaken (answer.Administration n) = true
-isTaken (answer.Refused n) = false
 
 -- a single-group message, or the first group of another: a message that is open is dropped. That no other word that is taken drops one
 -- is `continues` in proofs/Continuing.antt

@@ -1,8 +1,7 @@
 // Whether user words are whole messages.
 ghost use mathlib.Core.Path.{_≡_};
 ghost use Rattle.report.specs.Read.{readReport};
-ghost use Rattle.messages.specs.Messages.{isEmpty, isTaken, begins, whole};
-use assembler::Answer;
+ghost use Rattle.messages.specs.Messages.{isEmpty, begins, whole};
 use assembler::Assembler;
 use word::Word;
 
@@ -14,12 +13,11 @@ pub fn are_whole(words: &[u64]) -> bool
     let mut i = 0;
     while i < words.len() {
         let word = words[i];
-        let step = state.step(word);
-        let answer = step.answer;
-        if !((is_empty(state) | !begins(Word::parse(word))) & is_taken(answer)) {
+        let advance = state.advance(word);
+        if !((is_empty(state) | !begins(Word::parse(word))) & advance.taken) {
             return false;
         }
-        state = step.next;
+        state = advance.next;
         i += 1;
     }
     is_empty(state)
@@ -32,16 +30,6 @@ fn is_empty(state: Assembler) -> bool
     match state {
         Assembler::Empty => true,
         Assembler::Started(_) => false,
-    }
-}
-
-// Whether an answer is no refusal.
-fn is_taken(answer: Answer) -> bool
-    ensures { λ r. ⌜ r ≡ isTaken answer ⌝ }
-{
-    match answer {
-        Answer::Refused(_) => false,
-        _ => true,
     }
 }
 

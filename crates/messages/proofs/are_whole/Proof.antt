@@ -24,22 +24,22 @@ loop-holds c = (omega arith, sym (ap (λ (a : Assembler). wholeFrom readReport a
 
 returns : tie.Need-returns Inv-loop μ-loop
 returns c =
-    let b = c .before in
-    let l = b .before .before .before .before .before .before .before .loop in
-    let ws = b .before .before .before .before .before .before .before .before .before .before .args .words .now in
-    let s = b .before .before .before .before .step in
-    let here = whole-next readReport (l .state) ws (l .i) _ _ _ false _ (s .result) (b .before .before .before .before .before .before .loop-test .taken)
-    (b .before .before .before .is-empty .ensures) (b .before .before .parse .ensures) (b .before .begins .ensures) (s .ensures) (b .is-taken .ensures) (not-true _ (c .if1 .taken)) in
+    let b = c .before .before in
+    let s = b .before .before .before in
+    let l = s .before .before .before .loop in
+    let ws = s .before .before .before .before .before .before .args .words .now in
+    let here = whole-next readReport (l .state) ws (l .i) _ _ false _ (s .advance .result) (s .before .before .loop-test .taken)
+    (b .before .before .is-empty .ensures) (b .before .parse .ensures) (b .begins .ensures) (s .advance .ensures) (not-true _ (c .if1 .taken)) in
     sym (l .inv .1 ∙ here)
 
 loop-again : tie.Need-loop-again Inv-loop μ-loop
 loop-again c =
-    let b = c .before in
-    let l = b .before .before .before .before .before .before .before .loop in
-    let ws = b .before .before .before .before .before .before .before .before .before .before .args .words .now in
-    let s = b .before .before .before .before .step in
-    let here = whole-next readReport (l .state) ws (l .i) _ _ _ true _ (s .result) (b .before .before .before .before .before .before .loop-test .taken)
-    (b .before .before .before .is-empty .ensures) (b .before .before .parse .ensures) (b .before .begins .ensures) (s .ensures) (b .is-taken .ensures) (not-false _ (c .if1 .left)) in
+    let b = c .before .before in
+    let s = b .before .before .before in
+    let l = s .before .before .before .loop in
+    let ws = s .before .before .before .before .before .before .args .words .now in
+    let here = whole-next readReport (l .state) ws (l .i) _ _ true _ (s .advance .result) (s .before .before .loop-test .taken)
+    (b .before .before .is-empty .ensures) (b .before .parse .ensures) (b .begins .ensures) (s .advance .ensures) (not-false _ (c .if1 .left)) in
     (omega arith, rw add-one (l .inv .1 ∙ here))
 
 returns-2 : tie.Need-returns-2 Inv-loop μ-loop
@@ -59,7 +59,6 @@ are-whole-spec =
     loop-holds
     (λ c. omega arith)
     (λ c. omega arith)
-    (λ c κs. search needs)
     (λ c κs. search needs)
     (λ c κs. search needs)
     (λ c κs. search needs)
