@@ -7,6 +7,5 @@ pub mod Refusals
 pub mod Demand3
 pub mod Reached
 pub mod OneMessage
-pub mod WayBack
 pub mod Examples
 pub mod OldFault

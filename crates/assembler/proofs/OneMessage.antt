@@ -25,7 +25,7 @@ use Rattle.assembler.specs.Fits.{fits}
 use Rattle.assembler.specs.Answers.{answerOf}
 use Rattle.assembler.specs.Step.{stepOf}
 use Rattle.assembler.specs.Calls.{calls, after}
-use Rattle.assembler.specs.WayBack.{GivesBack}
+use Rattle.assembler.specs.OneMessage.{GivesBack}
 use Rattle.assembler.proofs.CallSteps.{abstractCall, as-defined, next-fits, next-state, same-reports, same-after}
 
 -- a state that the definitions call empty

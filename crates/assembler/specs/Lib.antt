@@ -5,6 +5,6 @@ pub mod Joining
 pub mod Step
 pub mod Calls
 pub mod Demand3
-pub mod WayBack
+pub mod OneMessage
 pub mod Samples
 pub mod Advance

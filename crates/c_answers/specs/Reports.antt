@@ -1,9 +1,9 @@
 -- What the calls on reports and the assembler answer (include/alertc.h): on a refusal its number, and 0 elsewhere.
 use Prim.Native.Nat.{ℕ}
 use Rattle.report.specs.declared.Report.{Report}
-use Rattle.report.specs.declared.Writing.{Writing}
 use Rattle.report.specs.Report.{blank}
-use Rattle.report.specs.Write as writing
+use Rattle.report_write.specs.declared.Writing.{Writing}
+use Rattle.report_write.specs.Answers as writing
 use Rattle.assembler.specs.declared.Partial.{Partial}
 use Rattle.assembler.specs.declared.Answer.{Answer}
 use Rattle.assembler.specs.declared.Answer.the-variants as answers

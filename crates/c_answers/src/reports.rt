@@ -7,7 +7,7 @@ use assembler::Step;
 use c_values::reports::PlainReport;
 use c_values::states::state_of;
 use report::Report;
-use report::Writing;
+use report_write::Writing;
 
 // How many words or bytes were written into the lent buffer.
 #[repr(C)]

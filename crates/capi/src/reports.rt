@@ -1,7 +1,7 @@
 // Reports and the assembler.
 ghost use mathlib.Core.Path.{_≡_};
 ghost use lib.ListN.{length};
-ghost use Rattle.report.specs.Write.{writeReport, wordsAfter};
+ghost use Rattle.report_write.specs.Write.{writeReport, wordsAfter};
 ghost use Rattle.report.specs.Read.{readReport};
 ghost use Rattle.assembler.specs.Step.{stepOf};
 ghost use Rattle.c_values.specs.Reports.{reportFrom};
@@ -20,7 +20,7 @@ pub extern "C" fn alertc_report_write(report: PlainReport, ci: u8, words: &mut [
     ensures { λ r. ⌜ r ≡ reportWritten (writeReport ci (reportFrom report) (length (now (words .entry)))) ⌝ }
     ensures { λ _. ⌜ now (words .exit) ≡ wordsAfter ci (reportFrom report) (now (words .entry)) ⌝ }
 {
-    report_written(report.report().write(ci, words))
+    report_written(report_write::write(report.report(), ci, words))
 }
 
 // Takes a word into the assembler.

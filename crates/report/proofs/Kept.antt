@@ -6,7 +6,7 @@ use mathlib.Core.List.{List, [], _∷_, _++_, append-nil}
 use native.Mathlib.Nat.{suc-mul, zero-mul, add-comm, suc-add, zero-add}
 use native.Mathlib.Omega.{arith}
 use lib.ListN.{length, take, drop, length-append, length-replicate, length-drop}
-use lib.Seq.{drop-drop, drop-length, take-at, drop-at, take-append-add}
+use lib.Seq.{drop-drop, drop-length, take-at, drop-at, take-take, take-append-add}
 use lib.Dec.{leb, eqb}
 use borrow.Author.Tests.{eqb-true, le-leb, lt-leb}
 use borrow.Rule.Slice.PartMut.{putMid, postOf}
@@ -14,6 +14,7 @@ use Rattle.bits.specs.Bits.{bits, val}
 use Rattle.bits.specs.Fields.{words, fits}
 use Rattle.bits.proofs.Choice.{and-left, and-right, chosen, passed-over}
 use Rattle.bits.proofs.Value.{length-bits, take-bits}
+use Rattle.bits.proofs.Stretch.{drop-take}
 use Rattle.bits.proofs.Fields.{length-words}
 use Rattle.word.specs.Format.{headFormat}
 use Rattle.word.specs.Compose.{singleValues}
@@ -33,7 +34,18 @@ use Rattle.report.specs.declared.Form.the-variants.{Single, Multi}
 use Rattle.report.specs.declared.Packing.the-variants.{Groups, Refused}
 use Rattle.report.specs.Fits.{singleFits, itemsFit, fitsBy, reportFits}
 use Rattle.report.specs.Record.{contentBytes, bytesOf, groupsFor, groupsOf, packReport, bytesAfter}
-use Rattle.report.proofs.Multi.{words-take, items-fit, fit-writable, fit-packed}
+use Rattle.report.proofs.Multi.{items-fit, fit-writable, fit-packed}
+
+-- n words stand in the first n * w bits
+pub words-take : (w n : ℕ) (l : List Bool) → words w n (take (n * w) l) ≡ words w n l
+unfolding words
+words-take w zero l = refl
+words-take w (suc n) l =
+    let e : suc n * w ≡ w + n * w = suc-mul n w ∙ add-comm (n * w) w in
+    ap₂ (λ (a b : List Bool). val a ∷ words w n b)
+    (take-take w (suc n * w) l (omega (arith, suc-mul n w)))
+    (ap (λ (m : ℕ). drop w (take m l)) e ∙ drop-take w (n * w) l)
+    ∙ ap (λ (ns : List ℕ). val (take w l) ∷ ns) (words-take w n (drop w l))
 
 pub words-append : (w m n : ℕ) (l : List Bool) → words w (m + n) l ≡ words w m l ++ words w n (drop (m * w) l)
 unfolding words
@@ -98,7 +110,7 @@ report-items r h = by-form (r .form) h
   where
     by-form : (f : Form) → fitsBy f r ≡ true → itemsFit (r .items) ≡ true
     by-form Single e = single-items r e
-    by-form Multi e = items-fit 0 r e
+    by-form Multi e = items-fit r e
 
 module _ (r : Report) (fit : reportFits r ≡ true) where
   pub kept-short : length (packing (listed (r .items))) ≤ longest

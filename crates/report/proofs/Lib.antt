@@ -1,10 +1,7 @@
 pub mod Searching
 pub mod Messages
 pub mod Tests
-pub mod Groups
-pub mod Buffer
 pub mod Multi
-pub mod Forms
 pub mod Kept
-pub mod WayBack
+pub mod OwnParts
 pub mod Outcomes

@@ -1,10 +1,9 @@
 -- The reports that a writer takes, the continuity index apart (document 01, "Multi-group content").
-use Prim.Native.Nat.{ℕ}
 use mathlib.Core.Bool.{Bool, _&&_}
 use lib.Dec.{eqb}
 use Rattle.bits.specs.Fields.{fits}
 use Rattle.word.specs.Format.{headPart, headFormat}
-use Rattle.word.specs.Compose.{headValues, singleValues, isIndex}
+use Rattle.word.specs.Compose.{headValues, singleValues}
 use Rattle.content.specs.declared.items.Items.{Items}
 use Rattle.content.specs.Packing.{writable}
 use Rattle.content.specs.Stored.{listed, wellPlaced}
@@ -35,8 +34,3 @@ fitsBy Multi r = multiFits r
 
 unfoldable pub reportFits : Report → Bool
 reportFits r = fitsBy (r .form) r
-
--- the continuity index: 0 for a single-group report, 1 to 6 for a multi-group one
-unfoldable pub indexFits : Form → ℕ → Bool
-indexFits Single ci = eqb ci 0
-indexFits Multi ci = isIndex ci

@@ -1,6 +1,5 @@
 pub mod Report
 pub mod Read
 pub mod Fits
-pub mod Write
 pub mod Record
 pub mod Samples

@@ -1,6 +1,6 @@
 // The test of a report, as a writer tests it, the continuity index apart.
 ghost use mathlib.Core.Path.{_≡_};
-ghost use Rattle.report.specs.Fits.{reportFits, singleFits, itemsFit, multiFits, indexFits};
+ghost use Rattle.report.specs.Fits.{reportFits, singleFits, itemsFit, multiFits};
 use crate::Form;
 use crate::Report;
 use crate::read::diversion;
@@ -9,7 +9,6 @@ use content::items::Items;
 use content::pack::PackAnswer;
 use content::pack::pack;
 use word::compose::head_fits;
-use word::compose::is_index;
 use word::compose::single_fits;
 
 impl Report {
@@ -55,15 +54,5 @@ fn items_fit(items: Items) -> bool
     match answer {
         PackAnswer::Packed(_) => true,
         PackAnswer::Refused(_) => false,
-    }
-}
-
-// Whether the continuity index is one for the form.
-pub(crate) fn index_fits(form: Form, ci: u8) -> bool
-    ensures { λ b. ⌜ b ≡ indexFits form ci ⌝ }
-{
-    match form {
-        Form::Single => ci == 0,
-        Form::Multi => is_index(ci),
     }
 }

@@ -1,8 +1,7 @@
-// The report of a message: read from its groups, tested, and written as words.
+// The report of a message: read from its groups, tested as a writer does, and as the message table keeps it.
 mod fits;
 mod read;
 mod record;
-mod write;
 
 use content::items::Items;
 use word::Head;
@@ -32,12 +31,6 @@ pub enum Answer {
 pub struct MessageReading {
     pub answer: Answer,
     pub report: Report,
-}
-
-// The number of words written, or the refusal's number.
-pub enum Writing {
-    Written(usize),
-    Refused(u8),
 }
 
 // The number of groups that the packed content takes, or the refusal's number.

@@ -6,12 +6,12 @@ use mathlib.Core.List.{List}
 use lib.ListN.{length}
 use Rattle.bits.proofs.Choice.{and-left, and-right, chosen, passed-over}
 use Rattle.word.specs.Compose.{isIndex}
 use Rattle.report.specs.declared.Report.{Report}
 use Rattle.report.specs.declared.Form.{Form}
 use Rattle.report.specs.declared.Form.the-variants.{Single, Multi}
-use Rattle.report.specs.declared.Writing.the-variants.{Refused}
-use Rattle.report.specs.Fits.{singleFits, multiFits, fitsBy, reportFits, indexFits}
-use Rattle.report.specs.Write.{singleWords, multiWords, wordsBy, wordsOf, canWrite, answerFor, bufferAfter, writeReport, wordsAfter}
+use Rattle.report_write.specs.declared.Writing.the-variants.{Refused}
+use Rattle.report.specs.Fits.{singleFits, multiFits, fitsBy, reportFits}
+use Rattle.report_write.specs.Write.{indexFits, singleWords, multiWords, wordsBy, wordsOf, canWrite, answerFor, bufferAfter, writeReport, wordsAfter}
 
 module _ (ci : ℕ) (r : Report) where
   module _ (ok : canWrite ci r ≡ true) where

@@ -1,5 +1,5 @@
--- What `Report::write` leaves in a buffer reads back: a fresh assembler gives the report that was written, once, at the last word, and is empty
--- then (`way-back`). For the words are those of a message that is well-formed in the sense of demand 3.
+-- What `write` leaves in a buffer reads back: a fresh assembler gives the report that was written, once, at the last word, and is empty then
+-- (`way-back`). For the words are those of a message that is well-formed in the sense of demand 3 (`well-formed`).
 use Prim.Native.Nat.{ℕ, zero, suc, _-_, _^_, _≤_, _<_}
 use native.Mathlib.Omega.{arith}
 use mathlib.Core.Path.{_≡_, refl, sym, ap, subst, _∙_}
@@ -23,20 +23,22 @@ use Rattle.content.proofs.WrittenIsRead.{packable-short, writable-packable}
 use Rattle.report.specs.declared.Report.{Report}
 use Rattle.report.specs.declared.Form.{Form}
 use Rattle.report.specs.declared.Form.the-variants as form
-use Rattle.report.specs.declared.Writing.the-variants.{Written, Refused}
 use Rattle.report.specs.Report.{singleReport}
 use Rattle.report.specs.Read.{readReport}
 use Rattle.report.specs.Fits.{singleFits}
-use Rattle.report.specs.Write.{contentsOf, laterWords, singleWords, multiWords, wordsBy, wordsOf, canWrite, answerFor, bufferAfter, writeReport, wordsAfter}
-use Rattle.report.proofs.Groups.{later-fits}
-use Rattle.report.proofs.Multi.{fit-writable, items-fit, first-fits}
-use Rattle.report.proofs.Forms.{single-fits, multi-fits, multi-index}
-use Rattle.report.proofs.WayBack.{single-kind, first-kind, later-kind, single-is-report, contents-read}
+use Rattle.report.proofs.Multi.{fit-writable, items-fit}
+use Rattle.report.proofs.OwnParts.{single-is-report}
 use Rattle.transmission.specs.Message.{Group, Falling, end, next, WellFormed, alone, joined}
 use Rattle.transmission.specs.Demand3.{All}
 use Rattle.transmission.proofs.WholeMessage.{wordsIn}
-use Rattle.assembler.specs.WayBack.{GivesBack}
+use Rattle.assembler.specs.OneMessage.{GivesBack}
 use Rattle.assembler.proofs.OneMessage.{one-message}
+use Rattle.report_write.specs.declared.Writing.the-variants.{Written, Refused}
+use Rattle.report_write.specs.Write.{contentsOf, tailWord, tailWords, laterWords, singleWords, multiWords, wordsBy, wordsOf, canWrite, answerFor, bufferAfter, writeReport, wordsAfter}
+use Rattle.report_write.proofs.Tail.{later-fits}
+use Rattle.report_write.proofs.Multi.{index-lt, first-fits}
+use Rattle.report_write.proofs.Forms.{single-fits, multi-fits, multi-index}
+use Rattle.report_write.proofs.AsRead.{single-kind, first-kind, later-kind, contents-read}
 
 -- the groups of words that all arrive
 abbrev pub heard : List ℕ → List Group
@@ -56,19 +58,19 @@ contents-lt zero l = tt
 contents-lt (suc n) l = (val-take-lt groupBits l, contents-lt n (drop groupBits l))
 
 module _ (ci : ℕ) (i : isIndex ci ≡ true) where
-  -- later groups with one of these contents each, GSI falling to 0
-  falling : (cs : List ℕ) → length cs ≤ 4 → InRange cs → Falling ci (length cs) cs (heard (laterWords ci 0 cs))
-  unfolding laterWords
+  -- the groups after the second have one of these contents each, no mark, and GSI falling to 0
+  falling : (cs : List ℕ) → length cs ≤ 4 → InRange cs → Falling ci (length cs) cs (heard (tailWords ci cs))
+  unfolding tailWords tailWord
   falling [] few range = end
-  falling (c ∷ cs) few range = next (later-kind ci 0 (length cs) c i (later-fits ci 0 (length cs) c i (omega arith) (omega arith) (range .0))) (falling cs (omega arith) (range .1))
+  falling (c ∷ cs) few range = next (later-kind ci 0 (length cs) c i (later-fits ci 0 (length cs) c (range .0) (omega (arith, index-lt ci i)) (omega arith) (omega arith))) (falling cs (omega arith) (range .1))
 
   -- a first group before them, and the mark on the first of them
   multi-formed : (h : Head) (cs : List ℕ) (r : Report) → fits headFormat (firstValues ci h) ≡ true → 1 ≤ length cs → length cs ≤ 4 → InRange cs → readReport h cs ≡ gives r
-      → WellFormed singleReport readReport (heard (val (pack headFormat (firstValues ci h)) ∷ laterWords ci 1 cs)) r
+      → WellFormed singleReport readReport (heard (val (pack headFormat (firstValues ci h)) ∷ laterWords ci cs)) r
   unfolding laterWords
   multi-formed h [] r first some few range reads = absurd (omega arith)
   multi-formed h (c ∷ cs) r first some few range reads =
-      joined (first-kind ci h i first) (later-kind ci 1 (length cs) c i (later-fits ci 1 (length cs) c i (omega arith) (omega arith) (range .0))) (falling cs (omega arith) (range .1)) reads
+      joined (first-kind ci h i first) (later-kind ci 1 (length cs) c i (later-fits ci 1 (length cs) c (range .0) (omega (arith, index-lt ci i)) (omega arith) (omega arith))) (falling cs (omega arith) (range .1)) reads
 
 -- a report whose items stand in 28 places, and an index, which can be written together
 module _ (ci : ℕ) (r : Report) (sized : length (r .items .places) ≡ limit) (ok : canWrite ci r ≡ true) where
@@ -77,7 +79,7 @@ module _ (ci : ℕ) (r : Report) (sized : length (r .items .places) ≡ limit) (
   single-formed e =
       let f = single-fits ci r ok e in
       let ranges = and-left (fits headFormat (singleValues (r .duration) (r .diversion) (r .head))) (wellPlaced (r .items) && eqb (r .items .count) 0) f in
-      subst (WellFormed singleReport readReport (heard (singleWords r))) (single-is-report ci r sized f e) (alone (single-kind (r .duration) (r .diversion) (r .head) ranges))
+      subst (WellFormed singleReport readReport (heard (singleWords r))) (single-is-report r sized f e) (alone (single-kind (r .duration) (r .diversion) (r .head) ranges))
 
   groups-formed : r .form ≡ form.Multi → WellFormed singleReport readReport (heard (multiWords ci r)) r
   unfolding multiWords contentsOf
@@ -86,9 +88,9 @@ module _ (ci : ℕ) (r : Report) (sized : length (r .items .places) ≡ limit) (
       let i = multi-index ci r ok e in
       let its = listed (r .items) in
       let n = groups (length (packing its)) - 1 in
-      let short = packable-short its (writable-packable its (fit-writable (r .items) (items-fit ci r f))) in
+      let short = packable-short its (writable-packable its (fit-writable (r .items) (items-fit r f))) in
       let long = length-words groupBits n (padded its) in
-      multi-formed ci i (r .head) (contentsOf its) r (first-fits ci r f i) (omega arith) (omega arith) (contents-lt n (padded its)) (contents-read ci r sized f e)
+      multi-formed ci i (r .head) (contentsOf its) r (first-fits ci r f i) (omega arith) (omega arith) (contents-lt n (padded its)) (contents-read r sized f e)
 
   -- the words are those of a well-formed message, whose report it is
   pub well-formed : WellFormed singleReport readReport (heard (wordsOf ci r)) r

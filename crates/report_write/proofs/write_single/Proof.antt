@@ -4,12 +4,12 @@ use mathlib.Core.Path.{ap, _∙_}
 use mathlib.Core.List.{_∷_}
 use lib.ListN.{drop}
 use Rattle.bits.proofs.Choice.{and-left}
 use Rattle.report.specs.Fits.{singleFits}
-use Rattle.report.specs.Write.{singleWords}
-use Rattle.report.proofs.Buffer.{set-first, with-room, no-room}
+use Rattle.report_write.specs.Write.{singleWords}
+use Rattle.report_write.proofs.Buffer.{set-first, with-room, no-room}
 use borrow.Author.Needs.{needs}
-use Rattle.report.proofs.write.write_single.Statement.{statement}
-use Rattle.report.proofs.write.write_single.Tie as tie
+use Rattle.report_write.proofs.write_single.Statement.{statement}
+use Rattle.report_write.proofs.write_single.Tie as tie
 
 single-number-requires : tie.Need-single-number-requires
 unfolding singleFits

@@ -1,10 +1,10 @@
 -- By the form.
 use mathlib.Core.Path.{sym, ap, _∙_}
 use Rattle.report.specs.declared.Form.{Form}
-use Rattle.report.specs.Fits.{indexFits}
+use Rattle.report_write.specs.Write.{indexFits}
 use borrow.Author.Needs.{needs}
-use Rattle.report.proofs.fits.index_fits.Statement.{statement}
-use Rattle.report.proofs.fits.index_fits.Tie as tie
+use Rattle.report_write.proofs.index_fits.Statement.{statement}
+use Rattle.report_write.proofs.index_fits.Tie as tie
 
 enum-told : tie.Need-enum-told
 enum-told c = search needs

@@ -1,17 +1,13 @@
--- The words of one well-formed message are whole messages, and so are those that `Report::write` leaves in a buffer: the DRM writer takes them.
+-- The words of one well-formed message are whole messages.
 use Prim.Native.Nat.{ℕ, zero, suc, _-_}
 use native.Mathlib.Omega.{arith}
 use mathlib.Core.Path.{_≡_, refl, sym, ap, subst, _∙_}
 use mathlib.Core.Bool.{true, false, false≢true}
 use mathlib.Core.List.{List, [], _∷_, _++_, map}
-use lib.ListN.{length, take, drop, replicate}
+use lib.ListN.{length, drop, replicate}
 use Rattle.word.specs.Kind.{kindOf}
-use Rattle.content.specs.Stored.{limit}
 use Rattle.report.specs.declared.Report.{Report}
-use Rattle.report.specs.declared.Writing.the-variants.{Written}
 use Rattle.report.specs.Report.{singleReport}
-use Rattle.report.specs.Read.{readReport}
-use Rattle.report.specs.Write.{writeReport, wordsAfter}
 use Rattle.transmission.specs.Reading.{ReadsMulti}
 use Rattle.transmission.specs.Message.{Group, Falling, end, next, WellFormed, alone, joined}
 use Rattle.transmission.specs.Demand3.{All}
@@ -22,7 +18,6 @@ use Rattle.assembler.specs.declared.Answer.the-variants as answer
 use Rattle.assembler.specs.declared.Step.{Step}
 use Rattle.assembler.specs.Calls.{calls, after}
 use Rattle.assembler.proofs.OneMessage.{one-message}
-use Rattle.assembler.proofs.WayBack.{was-taken, written-words, words-heard, well-formed}
 use Rattle.messages.specs.Messages.{begins}
 use Rattle.messages.specs.Whole.{Whole}
 
@@ -73,9 +68,3 @@ module _ (read : ReadsMulti Report) where
         kept = none-dropped formed;
         ended = back .ended;
       }
-
-pub written-whole : (ci : ℕ) (r : Report) (out : List ℕ) (n : ℕ) → length (r .items .places) ≡ limit → writeReport ci r (length out) ≡ Written n
-    → Whole readReport (take n (wordsAfter ci r out))
-written-whole ci r out n sized w =
-    subst (Whole readReport) (words-heard _ ∙ sym (written-words ci r out n w))
-    (formed-whole readReport (well-formed ci r sized (was-taken ci r out n w)))

@@ -1,0 +1,7 @@
+pub mod Buffer
+pub mod Tail
+pub mod Multi
+pub mod Forms
+pub mod AsRead
+pub mod WayBack
+pub mod Whole
