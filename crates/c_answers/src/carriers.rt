@@ -1,6 +1,7 @@
 // RDS groups, FIGs and data units.
 ghost use mathlib.Core.Path.{_≡_};
-ghost use Rattle.c_answers.specs.Carriers.{groupReading, writeRefusal, receivedBy, figReading, figWritten, unitReading, unitWritten};
+ghost use Rattle.rds.specs.Write.{refusalIn};
+ghost use Rattle.c_answers.specs.Carriers.{groupReading, receivedBy, figReading, figWritten, unitReading, unitWritten};
 use crate::reports::Written;
 use c_values::runs::PlainRun;
 use drm::DataUnit;
@@ -23,12 +24,7 @@ impl GroupReading {
         match reading {
             rds::Reading::Taken(group) => GroupReading { group, refusal: 0 },
             rds::Reading::Refused(refusal) => GroupReading {
-                group: Group {
-                    pi: 0,
-                    tp: 0,
-                    pty: 0,
-                    word: 0,
-                },
+                group: Group::new(),
                 refusal,
             },
         }
@@ -36,7 +32,7 @@ impl GroupReading {
 }
 
 pub fn write_refusal(writing: rds::Writing) -> u8
-    ensures { λ n. ⌜ n ≡ writeRefusal writing ⌝ }
+    ensures { λ n. ⌜ n ≡ refusalIn writing ⌝ }
 {
     match writing {
         rds::Writing::Done => 0,
@@ -100,7 +96,7 @@ impl FigReading {
             },
             fig::Reading::Refused(refusal) => FigReading {
                 count: 0,
-                fig: Fig { d1: 0, tcid: 0 },
+                fig: Fig::new(),
                 refusal,
             },
         }
@@ -136,18 +132,7 @@ impl UnitReading {
             },
             drm::Reading::Refused(refusal) => UnitReading {
                 count: 0,
-                unit: DataUnit {
-                    tmchi: 0,
-                    id: 0,
-                    services: 0,
-                    country: 0,
-                    ecc: 0,
-                    lto: 0,
-                    system: 0,
-                    first: 0,
-                    second: 0,
-                    third: 0,
-                },
+                unit: DataUnit::new(),
                 refusal,
             },
         }

@@ -1,6 +1,7 @@
 // 37-bit words and system words.
 ghost use mathlib.Core.Path.{_≡_};
-ghost use Rattle.c_answers.specs.Words.{wordParsed, parseRefusal, wordComposed, systemReading, systemWritten};
+ghost use Rattle.word.specs.Kind.{refusalOf};
+ghost use Rattle.c_answers.specs.Words.{wordParsed, wordComposed, systemReading, systemWritten};
 use c_values::systems::SystemFields;
 use c_values::words::WordFields;
 use word::Composed;
@@ -25,7 +26,7 @@ impl WordParsed {
 }
 
 fn parse_refusal(word: Word) -> u8
-    ensures { λ n. ⌜ n ≡ parseRefusal word ⌝ }
+    ensures { λ n. ⌜ n ≡ refusalOf word ⌝ }
 {
     match word {
         Word::Single { .. } => 0,

@@ -3,7 +3,7 @@ ghost use mathlib.Core.Path.{_≡_};
 ghost use lib.ListN.{length, drop};
 ghost use Rattle.bits.specs.Fields.{flat};
 ghost use Rattle.rds.specs.Read.{readGroup};
-ghost use Rattle.rds.specs.Write.{writeGroup, bufferAfter};
+ghost use Rattle.rds.specs.Write.{writeGroup, bufferAfter, refusalIn};
 ghost use Rattle.fig.specs.Format.{headerLength};
 ghost use Rattle.fig.specs.Read.{readFig, wordsAfter as figWords};
 ghost use Rattle.fig_write.specs.Write.{writeFig, bytesAfter as figBytes};
@@ -11,7 +11,7 @@ ghost use Rattle.crc.specs.Register.{checkWord};
 ghost use Rattle.crc.specs.Block.{payload};
 ghost use Rattle.drm.specs.Read.{readUnit, wordsAfter as unitWords};
 ghost use Rattle.drm_write.specs.Write.{writeUnit, bytesAfter as unitBytes};
-ghost use Rattle.c_answers.specs.Carriers.{groupReading, writeRefusal, received, figReading, figWritten, unitReading, unitWritten};
+ghost use Rattle.c_answers.specs.Carriers.{groupReading, received, figReading, figWritten, unitReading, unitWritten};
 use c_answers::carriers::FigReading;
 use c_answers::carriers::GroupReading;
 use c_answers::carriers::Received;
@@ -36,7 +36,7 @@ pub extern "C" fn alertc_rds_read(bytes: &[u8]) -> GroupReading
 // Writes a group of eight bytes. A field out of its range is refused (9), then too small a buffer (15).
 #[no_mangle]
 pub extern "C" fn alertc_rds_write(group: Group, out: &mut [u8]) -> u8
-    ensures { λ n. ⌜ n ≡ writeRefusal (writeGroup group (length (now (out .entry)))) ⌝ }
+    ensures { λ n. ⌜ n ≡ refusalIn (writeGroup group (length (now (out .entry)))) ⌝ }
     ensures { λ _. ⌜ now (out .exit) ≡ bufferAfter group (now (out .entry)) ⌝ }
 {
     write_refusal(group.write(out))

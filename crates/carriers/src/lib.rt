@@ -33,8 +33,8 @@ impl Carried {
     pub const FIG: usize = 2;
 
     pub const DRM: usize = 3;
-    // The most words of a frame.
-    pub const WORDS: usize = 27;
+    // The most words of a frame: those of a data unit.
+    pub const WORDS: usize = DataUnit::WORDS;
 }
 
 // Reads the words of a frame's body, by its kind, into the first cells of a buffer. A kind other than the three is refused (2). The cells

@@ -1,22 +1,15 @@
 -- A unit's bytes: those before the check word, and the check word.
-use Prim.Native.Nat.{ℕ, _≤_}
+use Prim.Native.Nat.{ℕ}
 use mathlib.Core.Path.{_≡_, sym, ap, _∙_}
-use mathlib.Core.Bool.{_&&_, true}
+use mathlib.Core.Bool.{true}
 use mathlib.Core.List.{List}
 use lib.ListN.{length}
-use lib.Dec.{leb}
-use borrow.Author.Tests.{leb-true}
 use Rattle.bits.specs.Fields.{flat}
 use Rattle.bits.specs.Checks.{unless}
-use Rattle.bits.proofs.Choice.{and-left, and-right}
 use Rattle.bits.proofs.Checks.{passed, none, refused}
 use Rattle.crc.specs.Block.{payload, isChecked}
 use Rattle.drm.specs.declared.Reading.the-variants.{Refused}
 use Rattle.drm.specs.Read.{lengthFits, payloadRefusal, unitRefusal, taken, readUnit}
-
--- the test of the length
-pub between : (a n b : ℕ) → leb a n && leb n b ≡ true → (a ≤ n) × (n ≤ b)
-between a n b t = (leb-true a n (and-left (leb a n) (leb n b) t), leb-true n b (and-right (leb a n) (leb n b) t))
 
 -- a unit that is not refused
 pub accepted : (s : List ℕ) (room : ℕ) → unitRefusal s room ≡ 0 → (lengthFits (length s) ≡ true) × (payloadRefusal (flat 8 (payload s)) room ≡ 0)

@@ -2,6 +2,12 @@
 use Prim.Native.Nat.{ℕ}
 use mathlib.Core.List.{List, [], _∷_}
 use lib.ListN.{getD}
+use lib.IntN.{pos}
+use Rattle.drm.specs.declared.DataUnit.{DataUnit}
+
+-- no header, and Short ID 0
+abbrev pub emptyUnit : DataUnit
+emptyUnit = record { tmchi = 0; id = 0; services = 0; country = 0; ecc = 0; lto = pos 0; system = 0; first = 0; second = 0; third = 0 }
 
 -- the bytes of a unit, at least and at most (clause 7.3)
 abbrev pub shortest : ℕ
@@ -16,6 +22,23 @@ wordWidth = 37
 
 abbrev pub systemWidth : ℕ
 systemWidth = 16
+
+-- the bits of the start, of the UA data, and of a header's fields after them
+abbrev pub startWidth : ℕ
+startWidth = 6
+
+abbrev pub uaWidth : ℕ
+uaWidth = 16
+
+abbrev pub headerWidth : ℕ
+headerWidth = 24
+
+-- the bits at which the UA flag lies, after the start and rfa, and the UA data; where there is none, the header's fields lie there
+abbrev pub flagAt : ℕ
+flagAt = 7
+
+abbrev pub uaAt : ℕ
+uaAt = 8
 
 -- TMCHI, rfu, Short ID
 abbrev pub startFormat : List ℕ

@@ -8,31 +8,31 @@ use Rattle.bits.specs.Bits.{bits, val}
 use Rattle.bits.specs.Fields.{words, unpack}
 use Rattle.bits.specs.Overlay.{stretch}
 use Rattle.drm.specs.declared.DataUnit.{DataUnit}
-use Rattle.drm.specs.Format.{startFormat, tmchiIn, idIn, headerFormat, servicesIn, countryIn, eccIn, ltoIn, systemIn, alertC, wordWidth, systemWidth}
+use Rattle.drm.specs.Format.{startFormat, tmchiIn, idIn, headerFormat, servicesIn, countryIn, eccIn, ltoIn, systemIn, alertC, wordWidth, systemWidth, startWidth, flagAt, uaAt, uaWidth, headerWidth}
 use Rattle.lto.specs.Offset.{ltoOf}
 
 -- TMCHI, rfu, Short ID
 abbrev pub start : List Bool → List ℕ
-start l = unpack startFormat (stretch 0 6 l)
+start l = unpack startFormat (stretch 0 startWidth l)
 
 abbrev pub tmchi : List Bool → ℕ
 tmchi l = tmchiIn (start l)
 
 -- the UA flag, which comes after rfa; 0 where there is no header
 unfoldable pub uaFlag : List Bool → ℕ
-uaFlag l = cond (eqb (tmchi l) 0) 0 (val (stretch 7 1 l))
+uaFlag l = cond (eqb (tmchi l) 0) 0 (val (stretch flagAt 1 l))
 
 -- the application identifier: the UA data, or that of ALERT-C where there is none
 unfoldable pub aid : List Bool → ℕ
-aid l = cond (eqb (uaFlag l) 0) alertC (val (stretch 8 16 l))
+aid l = cond (eqb (uaFlag l) 0) alertC (val (stretch uaAt uaWidth l))
 
 -- where the fields of the header lie
 abbrev pub headerAt : List Bool → ℕ
-headerAt l = 8 + uaFlag l * 16
+headerAt l = uaAt + uaFlag l * uaWidth
 
 -- the bits of these fields; zero bits where there is no header
 unfoldable pub headerBits : List Bool → List Bool
-headerBits l = cond (eqb (tmchi l) 0) (bits 24 0) (stretch (headerAt l) 24 l)
+headerBits l = cond (eqb (tmchi l) 0) (bits headerWidth 0) (stretch (headerAt l) headerWidth l)
 
 -- number of services, Country, ECC, LTO, m
 abbrev pub header : List Bool → List ℕ
@@ -43,14 +43,14 @@ systemCount l = systemIn (header l)
 
 -- where the system words lie, and these words
 abbrev pub systemAt : List Bool → ℕ
-systemAt l = headerAt l + 24
+systemAt l = headerAt l + headerWidth
 
 abbrev pub systemWords : List Bool → List ℕ
 systemWords l = words systemWidth (systemCount l) (drop (systemAt l) l)
 
 -- where the user words lie
 unfoldable pub wordsAt : List Bool → ℕ
-wordsAt l = cond (eqb (tmchi l) 0) 6 (systemAt l + systemCount l * systemWidth)
+wordsAt l = cond (eqb (tmchi l) 0) startWidth (systemAt l + systemCount l * systemWidth)
 
 -- how many user words there are from bit a on: as many as fit
 abbrev pub countFrom : ℕ → List Bool → ℕ

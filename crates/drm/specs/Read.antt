@@ -8,9 +8,10 @@ use Rattle.bits.specs.Bits.{allZero}
 use Rattle.bits.specs.Fields.{flat, words}
 use Rattle.bits.specs.Checks.{must, firstOf, unless}
 use Rattle.crc.specs.Block.{payload, isChecked}
+use Rattle.drm.specs.declared.DataUnit.{DataUnit}
 use Rattle.drm.specs.declared.Reading.{Reading}
 use Rattle.drm.specs.declared.Reading.the-variants.{Taken, Refused}
-use Rattle.drm.specs.Format.{shortest, longest, wordWidth, tmchiIn, rfuIn, systemIn, alertC}
+use Rattle.drm.specs.Format.{shortest, longest, wordWidth, tmchiIn, rfuIn, systemIn, alertC, emptyUnit}
 use Rattle.drm.specs.Payload.{start, aid, header, systemWords, wordsAt, countFrom, padding, unitOf}
 
 -- 8 to 128 bytes
@@ -57,3 +58,16 @@ readUnit s room = unless Refused (unitRefusal s room) (taken (flat 8 (payload s)
 unfoldable pub wordsAfter : Reading → List Bool → List ℕ → List ℕ
 wordsAfter (Taken unit n) l out = words wordWidth n (drop (wordsAt l) l) ++ drop n out
 wordsAfter (Refused n) l out = out
+
+-- what the answer tells: the unit, empty on a refusal, the number of its user words, and the refusal's number, 0 where there is none
+abbrev pub unitIn : Reading → DataUnit
+unitIn (Taken unit n) = unit
+unitIn (Refused n) = emptyUnit
+
+abbrev pub countIn : Reading → ℕ
+countIn (Taken unit n) = n
+countIn (Refused n) = 0
+
+abbrev pub refusalIn : Reading → ℕ
+refusalIn (Taken unit n) = 0
+refusalIn (Refused n) = n

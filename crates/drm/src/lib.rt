@@ -1,6 +1,6 @@
 // The data unit, which carries the Traffic Message Channel of DRM, and reading it.
 ghost use mathlib.Core.Path.{_≡_};
-ghost use lib.IntN.{pos};
+ghost use Rattle.drm.specs.Format.{emptyUnit};
 
 mod read;
 
@@ -33,10 +33,30 @@ impl DataUnit {
     pub const SHORTEST: usize = 8;
 
     pub const LONGEST: usize = 128;
-    // The bits before the system words: of the start alone, and of the start and a header.
+    // The bits of the start, of the UA data, and of the header's fields from the number of services on.
     pub const START: usize = 6;
 
-    pub const FRONT: usize = 32;
+    pub const UA_DATA: usize = 16;
+
+    pub const HEADER: usize = 24;
+    // The bits at which the UA flag, after rfa, and the UA data lie. A header without UA data has its fields there.
+    pub const UA_FLAG_AT: usize = DataUnit::START + 1;
+
+    pub const UA_DATA_AT: usize = DataUnit::START + 2;
+    // The bits before the system words, with a header and no UA data.
+    pub const FRONT: usize = DataUnit::UA_DATA_AT + DataUnit::HEADER;
+    // What one of a field counts, by the bits after it: in the start, where Short ID stands last, and in a header, where m does.
+    pub const TMCHI_WEIGHT: u64 = 0x20;
+
+    pub const RFU_WEIGHT: u64 = 0x10;
+
+    pub const SERVICES_WEIGHT: u64 = 0x10_0000;
+
+    pub const COUNTRY_WEIGHT: u64 = 0x1_0000;
+
+    pub const ECC_WEIGHT: u64 = 0x100;
+
+    pub const LTO_WEIGHT: u64 = 4;
     // The most user words, the bits of each, and the most bits of padding after them.
     pub const WORDS: usize = 27;
 
@@ -60,8 +80,7 @@ impl DataUnit {
 
     // No header, and Short ID 0.
     pub fn new() -> Self
-        ensures { λ r. ⌜ (r .tmchi ≡ 0) × (r .id ≡ 0) × (r .services ≡ 0) × (r .country ≡ 0) × (r .ecc ≡ 0) ⌝ }
-        ensures { λ r. ⌜ (r .lto ≡ pos 0) × (r .system ≡ 0) × (r .first ≡ 0) × (r .second ≡ 0) × (r .third ≡ 0) ⌝ }
+        ensures { λ r. ⌜ r ≡ emptyUnit ⌝ }
     {
         DataUnit {
             tmchi: 0,

@@ -16,6 +16,7 @@ use bits::run::words_at;
 use bits::zero::zeros_at;
 use crc::block::CHECK_LENGTH;
 use crc::block::is_checked;
+use lto::FIELDS;
 use lto::half_hours;
 
 impl DataUnit {
@@ -57,7 +58,7 @@ fn payload_refusal(p: &[u8], room: usize) -> u8
     requires { ⌜ (6 ≤ length (now p)) × (length (now p) ≤ 126) ⌝ }
     ensures { λ r. ⌜ r ≡ payloadRefusal (flat 8 (now (p .entry))) room ⌝ }
 {
-    let refused = field_refusal(bits_at(p, 0, 6), aid_of(p), header_of(p));
+    let refused = field_refusal(bits_at(p, 0, DataUnit::START), aid_of(p), header_of(p));
     if refused == 0 {
         words_refusal(p, first_word(p), room)
     } else {
@@ -69,13 +70,13 @@ fn payload_refusal(p: &[u8], room: usize) -> u8
 fn field_refusal(start: u64, aid: u64, header: u64) -> u8
     ensures { λ r. ⌜ r ≡ fieldRefusal (unpack startFormat (bits 6 start)) aid (unpack headerFormat (bits 24 header)) ⌝ }
 {
-    if start / 0x10 % 2 != 0 {
+    if start / DataUnit::RFU_WEIGHT % 2 != 0 {
         return 3;
     }
     if aid != DataUnit::ALERT_C {
         return 2;
     }
-    if header % 4 < start / 0x20 % 2 {
+    if header % 4 < start / DataUnit::TMCHI_WEIGHT % 2 {
         return 3;
     }
     0
@@ -110,10 +111,10 @@ fn ua_flag(p: &[u8]) -> usize
     requires { ⌜ 6 ≤ length (now p) ⌝ }
     ensures { λ r. ⌜ r ≡ uaFlag (flat 8 (now (p .entry))) ⌝ }
 {
-    if bits_at(p, 0, 6) / 0x20 % 2 == 0 {
+    if bits_at(p, 0, DataUnit::START) / DataUnit::TMCHI_WEIGHT % 2 == 0 {
         0
     } else {
-        bits_at(p, 7, 1) as usize
+        bits_at(p, DataUnit::UA_FLAG_AT, 1) as usize
     }
 }
 
@@ -125,7 +126,7 @@ fn aid_of(p: &[u8]) -> u64
     if ua_flag(p) == 0 {
         DataUnit::ALERT_C
     } else {
-        bits_at(p, 8, 16)
+        bits_at(p, DataUnit::UA_DATA_AT, DataUnit::UA_DATA)
     }
 }
 
@@ -134,7 +135,7 @@ fn header_at(p: &[u8]) -> usize
     requires { ⌜ 6 ≤ length (now p) ⌝ }
     ensures { λ r. ⌜ r ≡ headerAt (flat 8 (now (p .entry))) ⌝ }
 {
-    8 + ua_flag(p) * 16
+    DataUnit::UA_DATA_AT + ua_flag(p) * DataUnit::UA_DATA
 }
 
 // The fields of the header as one number, 0 where there is none.
@@ -142,10 +143,10 @@ fn header_of(p: &[u8]) -> u64
     requires { ⌜ 6 ≤ length (now p) ⌝ }
     ensures { λ r. ⌜ r ≡ val (headerBits (flat 8 (now (p .entry)))) ⌝ }
 {
-    if bits_at(p, 0, 6) / 0x20 % 2 == 0 {
+    if bits_at(p, 0, DataUnit::START) / DataUnit::TMCHI_WEIGHT % 2 == 0 {
         0
     } else {
-        bits_at(p, header_at(p), 24)
+        bits_at(p, header_at(p), DataUnit::HEADER)
     }
 }
 
@@ -154,10 +155,10 @@ fn first_word(p: &[u8]) -> usize
     requires { ⌜ 6 ≤ length (now p) ⌝ }
     ensures { λ r. ⌜ r ≡ wordsAt (flat 8 (now (p .entry))) ⌝ }
 {
-    if bits_at(p, 0, 6) / 0x20 % 2 == 0 {
-        6
+    if bits_at(p, 0, DataUnit::START) / DataUnit::TMCHI_WEIGHT % 2 == 0 {
+        DataUnit::START
     } else {
-        header_at(p) + 24 + (header_of(p) % 4) as usize * 16
+        header_at(p) + DataUnit::HEADER + (header_of(p) % 4) as usize * DataUnit::SYSTEM_WIDTH
     }
 }
 
@@ -181,9 +182,9 @@ fn unit_in(p: &[u8]) -> DataUnit
 {
     let header = header_of(p);
     let m = (header % 4) as usize;
-    let at = header_at(p) + 24;
+    let at = header_at(p) + DataUnit::HEADER;
     unit_of(
-        bits_at(p, 0, 6),
+        bits_at(p, 0, DataUnit::START),
         header,
         system_word(p, at, m, 0),
         system_word(p, at, m, 1),
@@ -197,7 +198,7 @@ fn system_word(p: &[u8], at: usize, m: usize, i: usize) -> u16
     ensures { λ r. ⌜ r ≡ getD (words 16 m (drop at (flat 8 (now (p .entry))))) i 0 ⌝ }
 {
     if i < m {
-        bits_at(p, at + i * 16, 16) as u16
+        bits_at(p, at + i * DataUnit::SYSTEM_WIDTH, DataUnit::SYSTEM_WIDTH) as u16
     } else {
         0
     }
@@ -208,12 +209,12 @@ fn unit_of(start: u64, header: u64, first: u16, second: u16, third: u16) -> Data
     ensures { λ r. ⌜ r ≡ unitOf (unpack startFormat (bits 6 start)) (unpack headerFormat (bits 24 header)) (first ∷ second ∷ third ∷ []) ⌝ }
 {
     DataUnit {
-        tmchi: (start / 0x20 % 2) as u8,
+        tmchi: (start / DataUnit::TMCHI_WEIGHT % 2) as u8,
         id: (start % 0x10) as u8,
-        services: (header / 0x100000 % 0x10) as u8,
-        country: (header / 0x10000 % 0x10) as u8,
-        ecc: (header / 0x100 % 0x100) as u8,
-        lto: half_hours((header / 4 % 0x40) as u8),
+        services: (header / DataUnit::SERVICES_WEIGHT % 0x10) as u8,
+        country: (header / DataUnit::COUNTRY_WEIGHT % 0x10) as u8,
+        ecc: (header / DataUnit::ECC_WEIGHT % 0x100) as u8,
+        lto: half_hours((header / DataUnit::LTO_WEIGHT % FIELDS) as u8),
         system: (header % 4) as u8,
         first,
         second,

@@ -10,7 +10,7 @@ use Rattle.drm.specs.declared.DataUnit.{DataUnit}
 use Rattle.crc.specs.Block.{checkLength, checked}
 use Rattle.drm_write.specs.declared.Writing.{Writing}
 use Rattle.drm_write.specs.declared.Writing.the-variants.{Written, Refused}
-use Rattle.drm.specs.Format.{longest, wordWidth, systemWidth, startFormat, headerFormat}
+use Rattle.drm.specs.Format.{longest, wordWidth, systemWidth, startWidth, uaAt, headerWidth, startFormat, headerFormat}
 use Rattle.lto.specs.Offset.{ltoField}
 use Rattle.report.specs.Read.{readReport}
 use Rattle.messages.specs.Messages.{whole}
@@ -49,7 +49,7 @@ fieldsFit u n = ltb (u .tmchi) 2 && ltb (u .id) 16 && headerFits u n
 
 -- the bits before the system words, and before the user words
 unfoldable pub frontWidth : DataUnit → ℕ
-frontWidth u = cond (eqb (u .tmchi) 0) 6 32
+frontWidth u = cond (eqb (u .tmchi) 0) startWidth (uaAt + headerWidth)
 
 abbrev pub lead : DataUnit → ℕ
 lead u = frontWidth u + u .system * systemWidth
@@ -104,3 +104,12 @@ writeUnit u ws room =
 unfoldable pub bytesAfter : Writing → DataUnit → List ℕ → List ℕ → List ℕ
 bytesAfter (Written n) u ws out = unitBytes u ws ++ drop n out
 bytesAfter (Refused n) u ws out = out
+
+-- what the answer tells: the number of bytes written, 0 on a refusal, and the refusal's number, 0 where there is none
+abbrev pub countIn : Writing → ℕ
+countIn (Written n) = n
+countIn (Refused n) = 0
+
+abbrev pub refusalIn : Writing → ℕ
+refusalIn (Written n) = 0
+refusalIn (Refused n) = n

@@ -16,6 +16,13 @@ use crc::block::put_check;
 use drm::DataUnit;
 use lto::lto_field;
 
+// What one of Short ID counts before rfa, the UA flag and a header's fields, and what TMCHI = 1 does.
+const ID_WEIGHT: u64 = 0x400_0000;
+
+const TMCHI: u64 = DataUnit::TMCHI_WEIGHT * ID_WEIGHT;
+// The bits of all system words that a unit may have.
+const SYSTEM_WORDS: usize = 48;
+
 // Fills s with the unit.
 pub(crate) fn fill(s: &mut [u8], unit: DataUnit, words: &[u64])
     requires { ⌜ (unitFits unit (length (now words)) ≡ true) × (length (now s) ≡ unitLength unit (length (now words))) ⌝ }
@@ -32,7 +39,7 @@ fn fill_payload(s: &mut [u8], unit: DataUnit, words: &[u64])
     ensures { λ _. ⌜ now (s .exit) ≡ Fields·words 8 (length (now (s .entry))) (payloadBits unit (now (words .entry))) ⌝ }
 {
     let system = unit.system as usize * DataUnit::SYSTEM_WIDTH;
-    let messages = system_number(unit) / pow2(48 - system);
+    let messages = system_number(unit) / pow2(SYSTEM_WORDS - system);
     lay(
         s,
         front_width(unit),
@@ -51,12 +58,12 @@ fn front_number(unit: DataUnit) -> u64
     if unit.tmchi == 0 {
         unit.id as u64
     } else {
-        0x80000000
-            + unit.id as u64 * 0x4000000
-            + unit.services as u64 * 0x100000
-            + unit.country as u64 * 0x10000
-            + unit.ecc as u64 * 0x100
-            + lto_field(unit.lto) * 4
+        TMCHI
+            + unit.id as u64 * ID_WEIGHT
+            + unit.services as u64 * DataUnit::SERVICES_WEIGHT
+            + unit.country as u64 * DataUnit::COUNTRY_WEIGHT
+            + unit.ecc as u64 * DataUnit::ECC_WEIGHT
+            + lto_field(unit.lto) * DataUnit::LTO_WEIGHT
             + unit.system as u64
     }
 }
@@ -65,7 +72,7 @@ fn front_number(unit: DataUnit) -> u64
 fn system_number(unit: DataUnit) -> u64
     ensures { λ r. ⌜ r ≡ val (flat 16 (systemFields unit)) ⌝ }
 {
-    unit.first as u64 * 0x100000000 + unit.second as u64 * 0x10000 + unit.third as u64
+    unit.first as u64 * 0x1_0000_0000 + unit.second as u64 * 0x1_0000 + unit.third as u64
 }
 
 // Fills s with the low bits of two numbers, the user words, and the zeros after them.

@@ -94,7 +94,10 @@ pub(crate) fn unit_length(unit: DataUnit, n: usize) -> usize
     requires { ⌜ n ≤ 27 ⌝ }
     ensures { λ r. ⌜ r ≡ unitLength unit n ⌝ }
 {
-    (front_width(unit) + unit.system as usize * DataUnit::SYSTEM_WIDTH + n * DataUnit::WIDTH + 7)
+    (front_width(unit)
+        + unit.system as usize * DataUnit::SYSTEM_WIDTH
+        + n * DataUnit::WIDTH
+        + DataUnit::PADDING)
         / 8
         + CHECK_LENGTH
 }

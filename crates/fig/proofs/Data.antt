@@ -8,34 +8,41 @@ use mathlib.Core.List.{List}
 use lib.ListN.{length, length-drop}
 use lib.Seq.{take-all}
 use lib.Dec.{leb, eqb, lit≤}
+use borrow.Author.Tests.{leb-true}
 use Rattle.bits.specs.Bits.{allZero}
 use Rattle.bits.specs.Fields.{flat}
 use Rattle.bits.specs.Overlay.{stretch}
 use Rattle.bits.specs.Checks.{must}
 use Rattle.bits.proofs.Fields.{length-flat}
 use Rattle.fig.specs.Format.{wordWidth}
-use Rattle.fig.specs.Read.{countIn, padding, lengthFits, dataRefusal}
+use Rattle.fig.specs.Read.{countOf, padding, lengthFits, dataRefusal}
+use Rattle.fig.proofs.Checks.{three}
 
 module _ (w : ℕ) (bytes : List ℕ) where
   -- the words and the padding are all of the bytes
-  pub all-bits : countIn w bytes * w + length bytes * 8 % w ≡ length bytes * 8
+  pub all-bits : countOf w bytes * w + length bytes * 8 % w ≡ length bytes * 8
   all-bits = div-add-mod' (length bytes * 8) w
 
   pub padding-length : length (padding w bytes) ≡ length bytes * 8 % w
-  padding-length = omega (arith, length-drop (countIn w bytes * w) (flat 8 bytes), length-flat 8 bytes, div-add-mod' (length bytes * 8) w)
+  padding-length = omega (arith, length-drop (countOf w bytes * w) (flat 8 bytes), length-flat 8 bytes, div-add-mod' (length bytes * 8) w)
 
   -- the padding is the last bits
-  pub padding-stretch : stretch (countIn w bytes * w) (length bytes * 8 % w) (flat 8 bytes) ≡ padding w bytes
+  pub padding-stretch : stretch (countOf w bytes * w) (length bytes * 8 % w) (flat 8 bytes) ≡ padding w bytes
   padding-stretch = take-all (length bytes * 8 % w) (padding w bytes) (omega (arith, padding-length))
 
   -- the checks as the code makes them
   pub checks : (room : ℕ) → dataRefusal w bytes room ≡
       must (lengthFits w (length bytes)) 1
-      (must (allZero (stretch (countIn w bytes * w) (length bytes * 8 % w) (flat 8 bytes))) 3
-      (must (leb (countIn w bytes) room) 15
+      (must (allZero (stretch (countOf w bytes * w) (length bytes * 8 % w) (flat 8 bytes))) 3
+      (must (leb (countOf w bytes) room) 15
       0))
   unfolding dataRefusal
-  checks room = ap (λ (l : List Bool). must (lengthFits w (length bytes)) 1 (must (allZero l) 3 (must (leb (countIn w bytes) room) 15 0))) (sym padding-stretch)
+  checks room = ap (λ (l : List Bool). must (lengthFits w (length bytes)) 1 (must (allZero l) 3 (must (leb (countOf w bytes) room) 15 0))) (sym padding-stretch)
+
+-- data that is not refused has room
+pub room : (w : ℕ) (bytes : List ℕ) (n : ℕ) → dataRefusal w bytes n ≡ 0 → countOf w bytes ≤ n
+unfolding dataRefusal
+room w bytes n e = leb-true (countOf w bytes) n (three (lengthFits w (length bytes)) (allZero (padding w bytes)) (leb (countOf w bytes) n) e .2)
 
 -- a word has 16 bits or more, and 37 or fewer
 either : (t : Bool) → (16 ≤ cond t 37 16) × (cond t 37 16 ≤ 37)

@@ -4,6 +4,7 @@ use mathlib.Core.Bool.{cond}
 use mathlib.Core.List.{List, [], _∷_}
 use lib.ListN.{getD}
 use lib.Dec.{eqb}
+use Rattle.fig.specs.declared.Fig.{Fig}
 
 -- bytes 0 and 1
 abbrev pub headerLength : ℕ
@@ -35,6 +36,10 @@ tcidIn f = getD f 4 0
 
 abbrev pub extensionIn : List ℕ → ℕ
 extensionIn f = getD f 5 0
+
+-- words of 37 bits for service 0
+abbrev pub emptyFig : Fig
+emptyFig = record { d1 = 0; tcid = 0 }
 
 -- the bits of a word: 37 for D1 = 0 (clause 5.1), 16 for D1 = 1 (clause 5.2)
 unfoldable pub wordWidth : ℕ → ℕ

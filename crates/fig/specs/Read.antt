@@ -10,7 +10,7 @@ use Rattle.bits.specs.Checks.{must, unless}
 use Rattle.fig.specs.declared.Fig.{Fig}
 use Rattle.fig.specs.declared.Reading.{Reading}
 use Rattle.fig.specs.declared.Reading.the-variants.{Taken, Refused}
-use Rattle.fig.specs.Format.{headerLength, longest, figFormat, typeIn, followingIn, d1In, d2In, tcidIn, extensionIn, wordWidth}
+use Rattle.fig.specs.Format.{headerLength, longest, figFormat, typeIn, followingIn, d1In, d2In, tcidIn, extensionIn, emptyFig, wordWidth}
 
 -- the header's fields: type, count, D1, D2, TCId, extension
 abbrev pub fields : List ℕ → List ℕ
@@ -21,12 +21,12 @@ abbrev pub figOf : List ℕ → Fig
 figOf f = record { d1 = d1In f; tcid = tcidIn f }
 
 -- how many words of w bits some data bytes hold
-abbrev pub countIn : ℕ → List ℕ → ℕ
-countIn w bytes = length bytes * 8 / w
+abbrev pub countOf : ℕ → List ℕ → ℕ
+countOf w bytes = length bytes * 8 / w
 
 -- the bits after those words
 abbrev pub padding : ℕ → List ℕ → List Bool
-padding w bytes = drop (countIn w bytes * w) (flat 8 bytes)
+padding w bytes = drop (countOf w bytes * w) (flat 8 bytes)
 
 -- a data length of n bytes: one word or more, and 0 to 7 bits of padding (clause 5, "Padding")
 abbrev pub lengthFits : ℕ → ℕ → Bool
@@ -50,12 +50,12 @@ unfoldable pub dataRefusal : ℕ → List ℕ → ℕ → ℕ
 dataRefusal w bytes room =
     must (lengthFits w (length bytes)) 1
     (must (allZero (padding w bytes)) 3
-    (must (leb (countIn w bytes) room) 15
+    (must (leb (countOf w bytes) room) 15
     0))
 
 -- the words of a FIG, by its data bytes
 unfoldable pub readData : Fig → List ℕ → ℕ → Reading
-readData fig bytes room = unless Refused (dataRefusal (wordWidth (fig .d1)) bytes room) (Taken fig (countIn (wordWidth (fig .d1)) bytes))
+readData fig bytes room = unless Refused (dataRefusal (wordWidth (fig .d1)) bytes room) (Taken fig (countOf (wordWidth (fig .d1)) bytes))
 
 -- a FIG read into a buffer with room for so many words
 unfoldable pub readFig : List ℕ → ℕ → Reading
@@ -65,3 +65,16 @@ readFig s room = unless Refused (headRefusal s) (readData (figOf (fields s)) (dr
 unfoldable pub wordsAfter : Reading → List ℕ → List ℕ → List ℕ
 wordsAfter (Taken fig n) bytes out = words (wordWidth (fig .d1)) n (flat 8 bytes) ++ drop n out
 wordsAfter (Refused n) bytes out = out
+
+-- what the answer tells: D1 and TCId and the number of words, all 0 on a refusal, and the refusal's number, 0 where there is none
+abbrev pub figIn : Reading → Fig
+figIn (Taken fig n) = fig
+figIn (Refused n) = emptyFig
+
+abbrev pub countIn : Reading → ℕ
+countIn (Taken fig n) = n
+countIn (Refused n) = 0
+
+abbrev pub refusalIn : Reading → ℕ
+refusalIn (Taken fig n) = 0
+refusalIn (Refused n) = n

@@ -1,6 +1,6 @@
 // FIG 5/1, which carries the Traffic Message Channel of DAB, and reading it.
 ghost use mathlib.Core.Path.{_≡_};
-ghost use Rattle.fig.specs.Format.{wordWidth};
+ghost use Rattle.fig.specs.Format.{emptyFig, wordWidth};
 
 mod read;
 
@@ -18,6 +18,20 @@ pub enum Reading {
 }
 
 impl Fig {
+    // The type and the extension of a FIG 5/1.
+    pub const TYPE: u64 = 5;
+
+    pub const EXTENSION: u64 = 1;
+    // What one of a field counts in the 16 bits of the header, by the bits after it; the extension stands last.
+    pub const TYPE_WEIGHT: u64 = 0x2000;
+
+    pub const COUNT_WEIGHT: u64 = 0x100;
+
+    pub const D1_WEIGHT: u64 = 0x80;
+
+    pub const D2_WEIGHT: u64 = 0x40;
+
+    pub const TCID_WEIGHT: u64 = 8;
     // The bytes of the header, and at most of the data and of a FIG.
     pub const HEADER: usize = 2;
 
@@ -41,7 +55,7 @@ impl Fig {
 
     // Words of 37 bits for service 0.
     pub fn new() -> Self
-        ensures { λ r. ⌜ (r .d1 ≡ 0) × (r .tcid ≡ 0) ⌝ }
+        ensures { λ r. ⌜ r ≡ emptyFig ⌝ }
     {
         Fig { d1: 0, tcid: 0 }
     }

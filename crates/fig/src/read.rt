@@ -63,16 +63,16 @@ fn head_refusal(s: &[u8]) -> u8
 fn field_refusal(header: u64, following: usize) -> u8
     ensures { λ r. ⌜ r ≡ fieldRefusal following (unpack figFormat (bits 16 header)) ⌝ }
 {
-    if header / 0x2000 % 8 != 5 {
+    if header / Fig::TYPE_WEIGHT % 8 != Fig::TYPE {
         return 2;
     }
-    if (header / 0x100 % 32) as usize != following {
+    if (header / Fig::COUNT_WEIGHT % 32) as usize != following {
         return 1;
     }
-    if header % 8 != 1 {
+    if header % 8 != Fig::EXTENSION {
         return 2;
     }
-    if header / 0x40 % 2 != 0 {
+    if header / Fig::D2_WEIGHT % 2 != 0 {
         return 3;
     }
     0
@@ -86,8 +86,8 @@ fn fig_of(s: &[u8]) -> Fig
     let end = Fig::HEADER;
     let header = load(&s[..end]);
     Fig {
-        d1: (header / 0x80 % 2) as u8,
-        tcid: (header / 8 % 8) as u8,
+        d1: (header / Fig::D1_WEIGHT % 2) as u8,
+        tcid: (header / Fig::TCID_WEIGHT % 8) as u8,
     }
 }
 

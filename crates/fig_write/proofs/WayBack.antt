@@ -23,7 +23,7 @@ use Rattle.fig.specs.declared.Reading.the-variants.{Taken, Refused}
 use Rattle.fig_write.specs.declared.Writing.the-variants as writing
 use Rattle.fig_write.specs.declared.Writing.the-variants.{Written}
 use Rattle.fig.specs.Format.{figFormat, wordWidth}
-use Rattle.fig.specs.Read.{fields, figOf, countIn, padding, fieldRefusal, headRefusal, dataRefusal, readData, readFig, wordsAfter}
+use Rattle.fig.specs.Read.{fields, figOf, countOf, padding, fieldRefusal, headRefusal, dataRefusal, readData, readFig, wordsAfter}
 use Rattle.fig_write.specs.Write.{figFits, dataLength, figLength, figValues, dataBits, figBytes, writeFig, bytesAfter}
 use Rattle.fig.proofs.Data.{width-bounds}
 use Rattle.fig_write.proofs.Ranges.{each-below, some-words, bits-fit, header-fits}
@@ -78,7 +78,7 @@ module _ (fig : Fig) (ws : List ℕ) where
     data-length : length (drop 2 s) * 8 ≡ length ws * w + left
     data-length = omega (arith, length-drop 2 s, length-bytes)
 
-    count-back : countIn w (drop 2 s) ≡ length ws
+    count-back : countOf w (drop 2 s) ≡ length ws
     count-back = ap (λ (m : ℕ). m / w) data-length ∙ digits-div (length ws) less
 
     left-back : length (drop 2 s) * 8 % w ≡ left
@@ -102,9 +102,9 @@ module _ (fig : Fig) (ws : List ℕ) where
     data-passes : (room : ℕ) → dataRefusal w (drop 2 s) room ≡ must (leb (length ws) room) 15 0
     unfolding dataRefusal
     data-passes room =
-        let some : 1 ≤ countIn w (drop 2 s) = omega (arith, count-back, some-words fig ws fit) in
+        let some : 1 ≤ countOf w (drop 2 s) = omega (arith, count-back, some-words fig ws fit) in
         let few : length (drop 2 s) * 8 % w ≤ 7 = omega (arith, left-back) in
-        chosen _ _ _ (ap₂ (λ (a b : Bool). a && b) (le-leb 1 (countIn w (drop 2 s)) some) (le-leb (length (drop 2 s) * 8 % w) 7 few))
+        chosen _ _ _ (ap₂ (λ (a b : Bool). a && b) (le-leb 1 (countOf w (drop 2 s)) some) (le-leb (length (drop 2 s) * 8 % w) 7 few))
         ∙ ap₂ (λ (m : ℕ) (p : List Bool). must (allZero p) 3 (must (leb m room) 15 0)) count-back padding-back
         ∙ chosen _ _ _ (zero-bits left)
 

@@ -22,7 +22,7 @@ use Rattle.fig.specs.declared.Fig.{Fig}
 use Rattle.fig.specs.declared.Reading.{Reading}
 use Rattle.fig.specs.declared.Reading.the-variants.{Taken, Refused}
 use Rattle.fig.specs.Format.{figFormat, typeIn, followingIn, d2In, extensionIn, wordWidth, mostWords}
-use Rattle.fig.specs.Read.{fields, figOf, countIn, padding, lengthFits, fieldRefusal, headRefusal, dataRefusal, readData, readFig}
+use Rattle.fig.specs.Read.{fields, figOf, countOf, padding, lengthFits, fieldRefusal, headRefusal, dataRefusal, readData, readFig}
 use Rattle.fig_write.specs.Write.{allBelow, figFits, dataLength, figLength, figValues, dataBits, figBytes}
 use Rattle.fig.proofs.Checks.{three}
 use Rattle.fig.proofs.Header.{length-fits}
@@ -84,7 +84,7 @@ module _ (s : List ℕ) where
   bytes = drop 2 s
 
   abbrev n : ℕ
-  n = countIn w bytes
+  n = countOf w bytes
 
   abbrev ws : List ℕ
   ws = words w n (flat 8 bytes)

@@ -54,3 +54,12 @@ writeFig fig ws room =
 unfoldable pub bytesAfter : Writing → Fig → List ℕ → List ℕ → List ℕ
 bytesAfter (Written n) fig ws out = figBytes fig ws ++ drop n out
 bytesAfter (Refused n) fig ws out = out
+
+-- what the answer tells: the number of bytes written, 0 on a refusal, and the refusal's number, 0 where there is none
+abbrev pub countIn : Writing → ℕ
+countIn (Written n) = n
+countIn (Refused n) = 0
+
+abbrev pub refusalIn : Writing → ℕ
+refusalIn (Written n) = 0
+refusalIn (Refused n) = n

@@ -13,6 +13,11 @@ use bits::field::put_bits;
 use bits::run::put_words;
 use fig::Fig;
 
+// The header's fields that are the same in every FIG: type 5, D2 0, extension 1.
+const FIXED: u64 = Fig::TYPE * Fig::TYPE_WEIGHT + Fig::EXTENSION;
+// The bits of the header.
+const HEADER_WIDTH: usize = Fig::HEADER * 8;
+
 pub enum Writing {
     // How many bytes were written.
     Written(usize),
@@ -27,7 +32,7 @@ pub fn write(fig: Fig, words: &[u64], out: &mut [u8]) -> Writing
 {
     if fig_fits(fig, words) {
         let w = fig.width();
-        let end = Fig::HEADER + (words.len() * w + 7) / 8;
+        let end = Fig::HEADER + (words.len() * w + Fig::PADDING) / 8;
         if end <= out.len() {
             let header = header_number(fig, end - 1);
             fill(&mut out[..end], header, w, words);
@@ -82,7 +87,10 @@ fn header_number(fig: Fig, following: usize) -> u64
     requires { ⌜ fits figFormat (figValues fig following) ≡ true ⌝ }
     ensures { λ r. ⌜ r ≡ val (pack figFormat (figValues fig following)) ⌝ }
 {
-    0xA001 + following as u64 * 0x100 + fig.d1 as u64 * 0x80 + fig.tcid as u64 * 8
+    FIXED
+        + following as u64 * Fig::COUNT_WEIGHT
+        + fig.d1 as u64 * Fig::D1_WEIGHT
+        + fig.tcid as u64 * Fig::TCID_WEIGHT
 }
 
 // Fills s with the header, the words of w bits and the zeros after them.
@@ -90,8 +98,8 @@ fn fill(s: &mut [u8], header: u64, w: usize, words: &[u64])
     requires { ⌜ (w ≤ 56) × (length (now s) ≤ 30) × (length (now s) ≡ 2 + dataLength w (length (now words))) ⌝ }
     ensures { λ _. ⌜ now (s .exit) ≡ Fields·words 8 (length (now (s .entry))) (bits 16 header ++ dataBits w (now (words .entry))) ⌝ }
 {
-    put_bits(s, 0, 16, header);
-    put_words(s, 16, w, words);
-    let used = 16 + words.len() * w;
+    put_bits(s, 0, HEADER_WIDTH, header);
+    put_words(s, HEADER_WIDTH, w, words);
+    let used = HEADER_WIDTH + words.len() * w;
     put_bits(s, used, s.len() * 8 - used, 0);
 }

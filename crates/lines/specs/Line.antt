@@ -42,7 +42,7 @@ line number form vs = decimal number ++ formText form ++ fields vs ++ newline �
 abbrev pub reportLine : ℕ → Report → List ℕ
 reportLine number r = line number (r .form) (values r)
 
--- `! R N`: the record's number, the refusal
+-- `! R N`: the frame's number, the refusal
 unfoldable pub refusalLine : ℕ → ℕ → List ℕ
 refusalLine number n = (33 ∷ []) ++ fields (number ∷ n ∷ []) ++ newline ∷ []
 

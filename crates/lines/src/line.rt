@@ -77,7 +77,7 @@ fn letter(form: Form) -> u8
     }
 }
 
-// The line of a refusal in the record with this number.
+// The line of a refusal in the frame with this number.
 pub fn put_refusal(out: &mut [u8], at: usize, number: u64, refusal: u8) -> usize
     requires { ⌜ at + room ≤ length (now out) ⌝ }
     ensures { λ r. ⌜ Put at (refusalLine number refusal) (now (out .entry)) r (now (out .exit)) ⌝ }

@@ -1,5 +1,6 @@
 // LTO, a signed number of half hours, from and to its field of six bits.
 ghost use mathlib.Core.Path.{_≡_};
+ghost use Prim.Native.Nat.{_%_};
 ghost use lib.IntN.{pos, negsuc};
 ghost use Rattle.lto.specs.Offset.{ltoOf, ltoField};
 
@@ -21,8 +22,15 @@ pub fn half_hours(field: u8) -> i8
     if field < SIGN {
         field as i8
     } else {
-        0 - (field % SIGN) as i8
+        0 - size(field) as i8
     }
+}
+
+// The five bits after the sign bit.
+fn size(field: u8) -> u8
+    ensures { λ r. ⌜ r ≡ field % 32 ⌝ }
+{
+    field % SIGN
 }
 
 // The field of an LTO, 64 where it is out of range.

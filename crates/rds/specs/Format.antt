@@ -35,6 +35,10 @@ ptyIn f = getD f 4 0
 abbrev pub wordIn : List ℕ → ℕ
 wordIn f = getD f 5 0
 
+-- the empty group: no programme, word 0
+abbrev pub emptyGroup : Group
+emptyGroup = record { pi = 0; tp = 0; pty = 0; word = 0 }
+
 -- type 8, version 0 (8A)
 abbrev pub groupValues : Group → List ℕ
 groupValues g = g .pi ∷ 8 ∷ 0 ∷ g .tp ∷ g .pty ∷ g .word ∷ []

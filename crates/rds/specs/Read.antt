@@ -8,7 +8,7 @@ use Rattle.bits.specs.Fields.{flat, unpack}
 use Rattle.rds.specs.declared.Group.{Group}
 use Rattle.rds.specs.declared.Reading.{Reading}
 use Rattle.rds.specs.declared.Reading.the-variants.{Taken, Refused}
-use Rattle.rds.specs.Format.{groupLength, groupFormat, piIn, typeIn, versionIn, tpIn, ptyIn, wordIn}
+use Rattle.rds.specs.Format.{groupLength, groupFormat, piIn, typeIn, versionIn, tpIn, ptyIn, wordIn, emptyGroup}
 
 -- PI, TP, PTY and the word, from the group's fields
 abbrev pub groupOf : List ℕ → Group
@@ -21,3 +21,12 @@ groupBy f = cond (eqb (typeIn f) 8 && eqb (versionIn f) 0) (Taken (groupOf f)) (
 -- refusal 1 for another length
 unfoldable pub readGroup : List ℕ → Reading
 readGroup s = cond (eqb (length s) groupLength) (groupBy (unpack groupFormat (flat 8 s))) (Refused 1)
+
+-- what the answer tells: the group, empty on a refusal, and the refusal's number, 0 where there is none
+abbrev pub groupIn : Reading → Group
+groupIn (Taken g) = g
+groupIn (Refused n) = emptyGroup
+
+abbrev pub refusalIn : Reading → ℕ
+refusalIn (Taken g) = 0
+refusalIn (Refused n) = n

@@ -48,3 +48,19 @@ runFits (More w) = ltb w wordLimit
 -- one group received; another run is refused (9) before all else, and kept
 unfoldable pub received : Run → List ℕ → Step
 received r s = cond (runFits r) (afterReading r (readGroup s)) (record { run = r; answer = Refused 9 })
+
+-- what the answer tells: whether there is a valid word (1, else 0), that word, 0 where there is none, and the refusal's number, likewise
+abbrev pub validIn : Answer → ℕ
+validIn Nothing = 0
+validIn (Valid w) = 1
+validIn (Refused n) = 0
+
+abbrev pub validWord : Answer → ℕ
+validWord Nothing = 0
+validWord (Valid w) = w
+validWord (Refused n) = 0
+
+abbrev pub refusalIn : Answer → ℕ
+refusalIn Nothing = 0
+refusalIn (Valid w) = 0
+refusalIn (Refused n) = n

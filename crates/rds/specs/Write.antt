@@ -21,3 +21,8 @@ groupBytes g = words 8 groupLength (pack groupFormat (groupValues g))
 -- the buffer afterwards: the first eight cells hold the group and later cells stay; a refusal leaves it
 unfoldable pub bufferAfter : Group → List ℕ → List ℕ
 bufferAfter g out = cond (fits groupFormat (groupValues g) && leb groupLength (length out)) (groupBytes g ++ drop groupLength out) out
+
+-- the refusal's number, 0 where there is none
+abbrev pub refusalIn : Writing → ℕ
+refusalIn Done = 0
+refusalIn (Refused n) = n

@@ -1,11 +1,10 @@
 // A type 8A group as eight bytes: four blocks, the high byte of each first.
 ghost use mathlib.Core.Path.{_≡_};
 ghost use mathlib.Core.Bool.{true};
-ghost use mathlib.Core.List.{[], _∷_};
 ghost use lib.ListN.{length};
 ghost use Rattle.bits.specs.Bits.{val};
 ghost use Rattle.bits.specs.Fields.{pack, fits};
-ghost use Rattle.rds.specs.Format.{groupFormat, groupValues};
+ghost use Rattle.rds.specs.Format.{groupFormat, groupValues, emptyGroup};
 ghost use Rattle.rds.specs.Read.{readGroup};
 ghost use Rattle.rds.specs.Write.{writeGroup, bufferAfter};
 use crate::Group;
@@ -14,9 +13,22 @@ use crate::Writing;
 use bits::bytes::load;
 use bits::bytes::store;
 
+// What one of a field counts in the 64 bits of a group, by the bits after it. PTY, which the word follows, counts Group::WORD_LIMIT.
+const PI_WEIGHT: u64 = 0x1_0000_0000_0000;
+
+const TYPE_WEIGHT: u64 = 0x1000_0000_0000;
+
+const TYPE_8A: u64 = Group::TYPE * TYPE_WEIGHT;
+
+const VERSION_WEIGHT: u64 = 0x800_0000_0000;
+
+const TP_WEIGHT: u64 = 0x400_0000_0000;
+
 impl Group {
     // The bytes of a group.
     pub const LENGTH: usize = 8;
+    // The group type; its version is 0.
+    pub const TYPE: u64 = 8;
     // Programme types and words are below these.
     pub const PROGRAMME_TYPES: u8 = 32;
 
@@ -24,7 +36,7 @@ impl Group {
 
     // The empty group: no programme, word 0.
     pub fn new() -> Self
-        ensures { λ r. ⌜ groupValues r ≡ 0 ∷ 8 ∷ 0 ∷ 0 ∷ 0 ∷ 0 ∷ [] ⌝ }
+        ensures { λ r. ⌜ r ≡ emptyGroup ⌝ }
     {
         Group {
             pi: 0,
@@ -42,12 +54,12 @@ impl Group {
             return Reading::Refused(1);
         }
         let n = load(s);
-        if (n / 0x1000_0000_0000 % 16 == 8) & (n / 0x800_0000_0000 % 2 == 0) {
+        if (n / TYPE_WEIGHT % 16 == Group::TYPE) & (n / VERSION_WEIGHT % 2 == 0) {
             Reading::Taken(Group {
-                pi: (n / 0x1_0000_0000_0000 % 0x1_0000) as u16,
-                tp: (n / 0x400_0000_0000 % 2) as u8,
-                pty: (n / 0x20_0000_0000 % 32) as u8,
-                word: n % 0x20_0000_0000,
+                pi: (n / PI_WEIGHT % 0x1_0000) as u16,
+                tp: (n / TP_WEIGHT % 2) as u8,
+                pty: (n / Group::WORD_LIMIT % 32) as u8,
+                word: n % Group::WORD_LIMIT,
             })
         } else {
             Reading::Refused(2)
@@ -86,6 +98,6 @@ fn group_number(g: Group) -> u64
     requires { ⌜ fits groupFormat (groupValues g) ≡ true ⌝ }
     ensures { λ r. ⌜ r ≡ val (pack groupFormat (groupValues g)) ⌝ }
 {
-    let high = g.pi as u64 * 0x1_0000_0000_0000 + 0x8000_0000_0000;
-    high + g.tp as u64 * 0x400_0000_0000 + g.pty as u64 * 0x20_0000_0000 + g.word
+    let high = g.pi as u64 * PI_WEIGHT + TYPE_8A;
+    high + g.tp as u64 * TP_WEIGHT + g.pty as u64 * Group::WORD_LIMIT + g.word
 }

@@ -28,3 +28,12 @@ systemBy t s =
 
 unfoldable pub systemOf : ℕ → Reading
 systemOf n = systemBy (unpack tableFormat (bits 16 n)) (unpack serviceFormat (bits 16 n))
+
+-- what the answer tells: the system word, all 0 on a refusal, and the refusal's number, 0 where there is none
+abbrev pub systemIn : Reading → System
+systemIn (Taken s) = s
+systemIn (Refused n) = Table 0 0 0 0 0 0 0
+
+abbrev pub refusalIn : Reading → ℕ
+refusalIn (Taken s) = 0
+refusalIn (Refused n) = n

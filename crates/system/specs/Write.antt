@@ -25,3 +25,12 @@ wordOf ws vs = cond (fits ws vs) (Word (val (pack ws vs))) (Refused 9)
 unfoldable pub written : System → Writing
 written (Table ltn afi mode i n r u) = wordOf tableFormat (tableValues ltn afi mode i n r u)
 written (Service gap sid ta tw td) = wordOf serviceFormat (serviceValues gap sid ta tw td)
+
+-- what the answer tells: the word, 0 on a refusal, and the refusal's number, 0 where there is none
+abbrev pub wordIn : Writing → ℕ
+wordIn (Word n) = n
+wordIn (Refused n) = 0
+
+abbrev pub refusalIn : Writing → ℕ
+refusalIn (Word n) = 0
+refusalIn (Refused n) = n

@@ -45,3 +45,12 @@ composed (Tuning n) = numberIf (eqb (n / 2 ^ 36) 1) n
 composed (Administration n) = numberIf (eqb (n / 2 ^ 32) 0) n
 composed (Index7 n) = numberIf (eqb (n / 2 ^ 32) 7) n
 composed (Beyond n) = Refused 9
+
+-- what the answer tells: the word, 0 on a refusal, and the refusal's number, 0 where there is none
+abbrev pub wordIn : Composed → ℕ
+wordIn (Number n) = n
+wordIn (Refused n) = 0
+
+abbrev pub refusalIn : Composed → ℕ
+refusalIn (Number n) = 0
+refusalIn (Refused n) = n

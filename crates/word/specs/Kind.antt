@@ -25,3 +25,13 @@ kindBy n h l =
 -- the kind and fields of any number
 unfoldable pub kindOf : ℕ → Word
 kindOf n = cond (leb limit n) (Beyond n) (kindBy n (headFields n) (laterFields n))
+
+-- what a kind says of its number: refusal 9 where it is no word, else 0
+abbrev pub refusalOf : Word → ℕ
+refusalOf (Single duration diversion head) = 0
+refusalOf (First ci head) = 0
+refusalOf (Later ci second gsi content) = 0
+refusalOf (Tuning n) = 0
+refusalOf (Administration n) = 0
+refusalOf (Index7 n) = 0
+refusalOf (Beyond n) = 9

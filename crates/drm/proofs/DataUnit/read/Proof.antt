@@ -3,8 +3,9 @@ use native.Mathlib.Omega.{arith}
 use mathlib.Core.Path.{refl, sym, _∙_}
 use lib.ListN.{length}
 use Rattle.drm.specs.Read.{wordsAfter}
+use Rattle.bits.proofs.Choice.{between}
 use Rattle.crc.proofs.Blocks.{length-payload}
-use Rattle.drm.proofs.Whole.{between, accepted, unit-taken, unit-refused}
+use Rattle.drm.proofs.Whole.{accepted, unit-taken, unit-refused}
 use borrow.Author.Needs.{needs}
 use Rattle.drm.proofs.DataUnit.read.Statement.{statement}
 use Rattle.drm.proofs.DataUnit.read.Tie as tie

@@ -2,10 +2,9 @@
 use native.Mathlib.Omega.{arith}
 use mathlib.Core.Path.{sym, _∙_}
 use lib.ListN.{length}
-use Rattle.bits.proofs.Choice.{chosen, passed-over}
+use Rattle.bits.proofs.Choice.{between, chosen, passed-over}
 use Rattle.crc.proofs.Blocks.{length-payload}
 use Rattle.drm.specs.Read.{unitRefusal}
-use Rattle.drm.proofs.Whole.{between}
 use borrow.Author.Needs.{needs}
 use Rattle.drm.proofs.read.unit_refusal.Statement.{statement}
 use Rattle.drm.proofs.read.unit_refusal.Tie as tie

@@ -6,10 +6,10 @@ use lib.ListN.{length}
 use lib.Seq.{length-take-le}
 use Rattle.bits.specs.Bits.{bits}
 use Rattle.bits.specs.Fields.{unpack}
-use Rattle.bits.proofs.Choice.{chosen, passed-over}
+use Rattle.bits.proofs.Choice.{between, chosen, passed-over}
 use Rattle.fig.specs.Format.{figFormat}
 use Rattle.fig.specs.Read.{fieldRefusal, headRefusal}
-use Rattle.fig.proofs.Header.{fields-of, in-range}
+use Rattle.fig.proofs.Header.{fields-of}
 use borrow.Author.Needs.{needs}
 use Rattle.fig.proofs.read.head_refusal.Statement.{statement}
 use Rattle.fig.proofs.read.head_refusal.Tie as tie
@@ -17,15 +17,15 @@ use Rattle.fig.proofs.read.head_refusal.Tie as tie
 slice-aggregate-load : tie.Need-slice-aggregate-load
 slice-aggregate-load c =
     let s = c .before .before .before .args .s .now in
-    sym (length-take-le 2 s (in-range (length s) (c .before .if1 .taken) .0))
+    sym (length-take-le 2 s (between _ (length s) _ (c .before .if1 .taken) .0))
 
 load-requires : tie.Need-load-requires
 load-requires c κs =
     let s = c .before .before .before .args .s .now in
-    omega (arith, length-take-le 2 s (in-range (length s) (c .before .if1 .taken) .0))
+    omega (arith, length-take-le 2 s (between _ (length s) _ (c .before .if1 .taken) .0))
 
 sub-field-refusal : tie.Need-sub-field-refusal
-sub-field-refusal c = omega (arith, in-range (length (c .before .before .before .before .args .s .now)) (c .before .before .if1 .taken))
+sub-field-refusal c = omega (arith, between _ (length (c .before .before .before .before .args .s .now)) _ (c .before .before .if1 .taken))
 
 returns : tie.Need-returns
 unfolding headRefusal
@@ -33,7 +33,7 @@ returns c =
     let s = c .before .before .before .before .before .args .s .now in
     let test = c .before .before .before .if1 .taken in
     c .field-refusal .ensures
-    ∙ ap (fieldRefusal (length s - 1)) (ap (λ (n : ℕ). unpack figFormat (bits 16 n)) (c .before .load .ensures) ∙ fields-of s (in-range (length s) test .0))
+    ∙ ap (fieldRefusal (length s - 1)) (ap (λ (n : ℕ). unpack figFormat (bits 16 n)) (c .before .load .ensures) ∙ fields-of s (between _ (length s) _ test .0))
     ∙ sym (chosen _ _ _ test)
 
 returns-2 : tie.Need-returns-2

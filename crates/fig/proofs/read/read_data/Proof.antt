@@ -6,9 +6,9 @@ use mathlib.Core.List.{List, _++_}
 use lib.ListN.{length, take, drop}
 use lib.Seq.{length-take-le}
 use Rattle.bits.specs.Fields.{flat, words}
-use Rattle.fig.specs.Read.{countIn, wordsAfter}
-use Rattle.fig.proofs.Data.{all-bits, width-bounds}
-use Rattle.fig.proofs.Answers.{room, data-taken, data-refused, data-words}
+use Rattle.fig.specs.Read.{countOf, wordsAfter}
+use Rattle.fig.proofs.Data.{all-bits, room, width-bounds}
+use Rattle.fig.proofs.Answers.{data-taken, data-refused, data-words}
 use borrow.Author.Needs.{needs}
 use Rattle.fig.proofs.read.read_data.Statement.{statement}
 use Rattle.fig.proofs.read.read_data.Tie as tie
@@ -29,7 +29,7 @@ lent : (c : tie.After-words-at-arg) → length (take (length (c .before .before 
 lent c =
     let a = c .before .before .before .before .before .before .args in
     let w = c .before .before .before .width .result in
-    length-take-le (countIn w (a .bytes .now)) (a .out .now) (room w (a .bytes .now) (length (a .out .now)) (sym (c .before .before .data-refusal .ensures) ∙ c .before .if1 .taken))
+    length-take-le (countOf w (a .bytes .now)) (a .out .now) (room w (a .bytes .now) (length (a .out .now)) (sym (c .before .before .data-refusal .ensures) ∙ c .before .if1 .taken))
 
 slice-aggregate-words-at : tie.Need-slice-aggregate-words-at
 slice-aggregate-words-at c = sym (lent c)
@@ -51,7 +51,7 @@ returns c =
     let bytes = a .bytes .now in
     let none = sym (b .before .before .data-refusal .ensures) ∙ b .before .if1 .taken in (
       data-taken (a .fig) bytes (a .out .now) (w .result) (w .ensures) none,
-      ap (λ (l : List ℕ). l ++ drop (countIn (w .result) bytes) (a .out .now))
+      ap (λ (l : List ℕ). l ++ drop (countOf (w .result) bytes) (a .out .now))
           (c .before .before .words-at .ensures ∙ ap (λ (n : ℕ). words (w .result) n (flat 8 bytes)) (lent b))
           ∙ data-words (a .fig) bytes (a .out .now) (w .result) (w .ensures),
     )
