@@ -43,10 +43,10 @@ extern "C" {
 #endif
 
 /* The version of this interface: the first number changes when a caller must change. */
-#define ALERTC_VERSION_MAJOR 2
+#define ALERTC_VERSION_MAJOR 3
 #define ALERTC_VERSION_MINOR 0
 #define ALERTC_VERSION_PATCH 0
-#define ALERTC_VERSION "2.0.0"
+#define ALERTC_VERSION "3.0.0"
 
 /* ---- Refusals ---- */
 
@@ -93,7 +93,7 @@ static inline const char *alertc_refusal_text(unsigned refusal) {
     case ALERTC_REFUSED_UNFIT:
         return "report, field, word, state or place unfit";
     case ALERTC_REFUSED_MALFORMED:
-        return "table, catalogue or lives malformed";
+        return "table, record, catalogue or lives malformed";
     case ALERTC_REFUSED_EVENT:
         return "event unknown to the catalogue";
     case ALERTC_REFUSED_LOCATION:
@@ -493,8 +493,23 @@ struct alertc_table_reading {
 struct alertc_table_reading alertc_table_read(const uint8_t *table, size_t table_len,
                                               size_t place);
 
-/* The minute at which a report of this life, taken at this minute, expires. Nothing is refused. */
-uint64_t alertc_expiry(uint32_t minute, int8_t lto, uint16_t life);
+/*
+ * Reads the bytes of one record, in a time that does not grow with a table. Refused: bytes that are
+ * not one well-formed record (10), content (7, 8).
+ */
+struct alertc_table_reading alertc_record_read(const uint8_t *record, size_t record_len);
+
+struct alertc_expiry_answer {
+    uint32_t minute; /* the minute at which the report expires; 0 on a refusal */
+    uint8_t refusal;
+};
+
+/*
+ * The minute at which a report of this life, taken at this minute, expires. Refused, in this order:
+ * a life over ALERTC_LONGEST_LIFE (10), an offset out of its range (9), a minute over
+ * ALERTC_LARGEST_MINUTE (13).
+ */
+struct alertc_expiry_answer alertc_expiry(uint32_t minute, int8_t lto, uint16_t life);
 
 /* ---- The layouts on which the archive and its callers agree ---- */
 
@@ -587,6 +602,8 @@ ALERTC_AT_(table_reading, service, 136);
 ALERTC_AT_(table_reading, expiry, 140);
 ALERTC_AT_(table_reading, used, 144);
 ALERTC_AT_(table_reading, refusal, 145);
+ALERTC_SIZE_(expiry_answer, 8);
+ALERTC_AT_(expiry_answer, refusal, 4);
 
 #undef ALERTC_AT_
 #undef ALERTC_SIZE_

@@ -1,9 +1,10 @@
 // The message table.
 ghost use mathlib.Core.Path.{_≡_};
-ghost use Rattle.c_answers.specs.Tables.{tableAnswer, recordReading};
+ghost use Rattle.c_answers.specs.Tables.{tableAnswer, recordReading, expiryTold};
 use c_values::reports::PlainReport;
-use record::Reading;
+use clock::Expiry;
 use record::Service;
+use record_report::Reading;
 use table::Answer;
 
 // How many records expired and matched, whether the report was stored (1, else 0), and its place.
@@ -68,24 +69,49 @@ impl RecordReading {
     {
         let report = reading.report;
         let service = reading.service;
+        let expiry = reading.expiry;
         let answer = reading.answer;
         let mut r = RecordReading {
             report: PlainReport::of(report),
             service,
-            expiry: reading.expiry,
+            expiry: expiry.0,
             used: 0,
             refusal: 0,
         };
         match answer {
-            record::Answer::Free => r,
-            record::Answer::Read => {
+            record_report::Answer::Free => r,
+            record_report::Answer::Read => {
                 r.used = 1;
                 r
             }
-            record::Answer::Refused(n) => {
+            record_report::Answer::Refused(n) => {
                 r.refusal = n;
                 r
             }
+        }
+    }
+}
+
+// The minute at which a report ends.
+#[repr(C)]
+pub struct ExpiryAnswer {
+    pub minute: u32,
+    pub refusal: u8,
+}
+
+impl ExpiryAnswer {
+    pub fn of(answer: Expiry) -> Self
+        ensures { λ r. ⌜ r ≡ expiryTold answer ⌝ }
+    {
+        match answer {
+            Expiry::At(end) => ExpiryAnswer {
+                minute: end.0,
+                refusal: 0,
+            },
+            Expiry::Refused(n) => ExpiryAnswer {
+                minute: 0,
+                refusal: n,
+            },
         }
     }
 }

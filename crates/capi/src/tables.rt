@@ -3,8 +3,10 @@ ghost use mathlib.Core.Path.{_≡_};
 ghost use Rattle.table.specs.Take.{takeStep, takeTable};
 ghost use Rattle.table.specs.Read.{recordAt};
 ghost use Rattle.table.specs.Expire.{expireStep, expireTable};
-ghost use Rattle.clock.specs.Time.{expiryOf};
-ghost use Rattle.c_answers.specs.Tables.{arrivalOf, tableAnswer, recordReading};
+ghost use Rattle.clock.specs.Expiry.{expiryAnswer};
+ghost use Rattle.record_report.specs.Reads.{readingOf};
+ghost use Rattle.c_answers.specs.Tables.{arrivalOf, tableAnswer, recordReading, expiryTold};
+use c_answers::tables::ExpiryAnswer;
 use c_answers::tables::RecordReading;
 use c_answers::tables::TableAnswer;
 use c_values::reports::PlainReport;
@@ -63,10 +65,18 @@ pub extern "C" fn alertc_table_read(table: &[u8], place: usize) -> RecordReading
     RecordReading::of(Table::read(table, place))
 }
 
+// Reads the bytes of one record.
+#[no_mangle]
+pub extern "C" fn alertc_record_read(bytes: &[u8]) -> RecordReading
+    ensures { λ r. ⌜ r ≡ recordReading (readingOf (now (bytes .entry))) ⌝ }
+{
+    RecordReading::of(record_report::read::read(bytes))
+}
+
 // The minute at which a report of this life, taken at this minute, expires.
 #[no_mangle]
-pub extern "C" fn alertc_expiry(minute: u32, lto: i8, life: u16) -> u64
-    ensures { λ r. ⌜ r ≡ expiryOf minute lto life ⌝ }
+pub extern "C" fn alertc_expiry(minute: u32, lto: i8, life: u16) -> ExpiryAnswer
+    ensures { λ r. ⌜ r ≡ expiryTold (expiryAnswer minute lto life) ⌝ }
 {
-    Utc(minute).expiry(lto, life)
+    ExpiryAnswer::of(Utc(minute).expiry(lto, life))
 }

@@ -20,7 +20,8 @@ use Rattle.drm.specs.declared.Reading.the-variants.{Taken}
 use Rattle.drm.specs.Read as unit
 use Rattle.drm.specs.Read.{wordsRefusal, payloadRefusal, unitRefusal, taken, readUnit}
 use Rattle.drm.proofs.Lengths.{bare-count, not-nine}
-use Rattle.clock.specs.Time.{localOf, toMidnight, expiryOf}
+use Rattle.clock.specs.Time.{localOf, toMidnight, expiryOf, offsetFits}
+use Rattle.clock.specs.Expiry.{expiryAnswer}
 use Rattle.cases.specs.Case.{AllHold}
 use Rattle.cases.specs.Cases.{cases}
 
@@ -29,7 +30,7 @@ by-length : (s : List ℕ) (room n : ℕ) (u : DataUnit) → readUnit s room ≡
 by-length s room n u e z m h = sym (bare-count s room n u e z .0) ∙ ap (λ (k : ℕ). ((k - 2) * 8 - 6) / 37) h
 
 pub all-hold : AllHold cases
-unfolding computing bit num bits val allZero flat words unpack pack fits allBelow wordWidth mostWords figFits figBytes writeFig bytesAfter fieldRefusal headRefusal dataRefusal readData readFig wordsAfter systemOf systemBy shifted entered checkWord isChecked ltoOf uaFlag aid headerBits wordsAt unitOf firstOf unit.fieldRefusal wordsRefusal payloadRefusal unitRefusal unless taken readUnit localOf toMidnight expiryOf cases
+unfolding computing bit num bits val allZero flat words unpack pack fits allBelow wordWidth mostWords figFits figBytes writeFig bytesAfter fieldRefusal headRefusal dataRefusal readData readFig wordsAfter systemOf systemBy shifted entered checkWord isChecked ltoOf uaFlag aid headerBits wordsAt unitOf firstOf unit.fieldRefusal wordsRefusal payloadRefusal unitRefusal unless taken readUnit localOf toMidnight expiryOf offsetFits expiryAnswer cases
 all-hold = (
   refl,
   (

@@ -27,7 +27,9 @@ use Rattle.drm.specs.declared.DataUnit.{DataUnit}
 use Rattle.drm.specs.declared.Reading.the-variants as drm
 use Rattle.drm.specs.Read.{readUnit}
 use Rattle.crc.specs.Block.{checked}
-use Rattle.clock.specs.Time.{expiryOf}
+use Rattle.clock.specs.declared.Expiry.{Expiry}
+use Rattle.clock.specs.declared.Expiry.the-variants.{At}
+use Rattle.clock.specs.Expiry.{expiryAnswer}
 use Rattle.cases.specs.Case.{Case, case, rule}
 use Rattle.cases.specs.Samples.{fig1, pairFig, bare}
 
@@ -50,7 +52,7 @@ cases =
     ∷ rule 7 ((s : List ℕ) (room n : ℕ) (u : DataUnit) → readUnit s room ≡ drm.Taken u n → u .tmchi ≡ 0 → length s ≡ 8 → n ≡ 1)
     ∷ rule 7 ((s : List ℕ) (room n : ℕ) (u : DataUnit) → readUnit s room ≡ drm.Taken u n → length s ≡ 9 → ⊥)
     ∷ rule 7 ((s : List ℕ) (room n : ℕ) (u : DataUnit) → readUnit s room ≡ drm.Taken u n → u .tmchi ≡ 0 → length s ≡ 128 → n ≡ 27)
-    ∷ case 8 (expiryOf 0 (pos 0) 0) 1440
-    ∷ case 8 (expiryOf 0 (pos 2) 0) 1380
-    ∷ case 8 (expiryOf 0 (negsuc 0) 0) 30
+    ∷ case 8 (expiryAnswer 0 (pos 0) 0) (At (record { 0 = 1440 }))
+    ∷ case 8 (expiryAnswer 0 (pos 2) 0) (At (record { 0 = 1380 }))
+    ∷ case 8 (expiryAnswer 0 (negsuc 0) 0) (At (record { 0 = 30 }))
     ∷ []

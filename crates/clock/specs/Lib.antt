@@ -1,1 +1,3 @@
 pub mod Time
+pub mod Expiry
+pub mod Answers

@@ -39,6 +39,9 @@ unfoldable pub shifted : ℤ → ℕ
 shifted (pos n) = n + 128
 shifted (negsuc n) = 128 - suc n
 
--- the largest minute of a call
+-- the largest minute of a call, and the longest life in minutes
 abbrev pub largest : ℕ
 largest = 4000000000
+
+abbrev pub longestLife : ℕ
+longestLife = 10080

@@ -1,13 +1,6 @@
-pub mod Filling
+pub mod AsRecord
 pub mod Ranges
-pub mod Bytes
 pub mod Zeros
 pub mod Tested
 pub mod Steps
-pub mod Kept
-pub mod Makings
 pub mod FreeFits
-pub mod MadeFields
-pub mod WayBack
-pub mod Reports
-pub mod MadeFits

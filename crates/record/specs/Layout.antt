@@ -1,6 +1,6 @@
 -- The bytes of a record (document 01, "The message table"). Numbers are little-endian.
 use Prim.Native.Nat.{ℕ, _+_, _*_}
-use mathlib.Core.Bool.{Bool}
+use mathlib.Core.Bool.{Bool, cond}
 use mathlib.Core.List.{List}
 use lib.ListN.{length, take, drop, getD, replicate}
 use lib.Dec.{eqb}
@@ -20,6 +20,10 @@ isRecord r = eqb (length r) recordSize
 -- a free record is all zero
 abbrev pub freeRecord : List ℕ
 freeRecord = replicate recordSize 0
+
+-- bytes that are one record's as they are; others are taken for a free record
+unfoldable pub asRecord : List ℕ → List ℕ
+asRecord r = cond (isRecord r) r freeRecord
 
 abbrev pub byteAt : List ℕ → ℕ → ℕ
 byteAt r j = getD r j 0

@@ -1,7 +1,6 @@
+pub mod Services
 pub mod Layout
 pub mod WellFormed
 pub mod Zeros
 pub mod Matching
 pub mod Gone
-pub mod Made
-pub mod Reads

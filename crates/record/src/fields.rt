@@ -1,8 +1,8 @@
-// The fields of a record.
+// The fields of a record. Bytes that are not one record's are taken for a free record.
 ghost use mathlib.Core.Path.{_≡_};
 ghost use Prim.Native.Nat.{_+_, _≤_};
 ghost use lib.ListN.{length};
-ghost use Rattle.record.specs.Layout.{recordSize, twoAt, fourAt, expiryIn, locationIn, serviceIn, headIn};
+ghost use Rattle.record.specs.Layout.{recordSize, asRecord, twoAt, fourAt, expiryIn, locationIn, serviceIn, headIn};
 use crate::Location;
 use crate::Record;
 use crate::Service;
@@ -29,10 +29,12 @@ pub(crate) fn four(r: &[u8], at: usize) -> u32
 }
 
 // The minute at which the record ends.
-pub(crate) fn expiry(r: &[u8]) -> Utc
-    requires { ⌜ length (now r) ≡ recordSize ⌝ }
-    ensures { λ n. ⌜ n .0 ≡ expiryIn (now (r .entry)) ⌝ }
+pub fn expiry(r: &[u8]) -> Utc
+    ensures { λ n. ⌜ n .0 ≡ expiryIn (asRecord (now (r .entry))) ⌝ }
 {
+    if r.len() != Record::SIZE {
+        return Utc(0);
+    }
     Utc(four(r, Record::EXPIRY))
 }
 
@@ -45,10 +47,16 @@ pub(crate) fn location(r: &[u8]) -> Location
     }
 }
 
-pub(crate) fn service(r: &[u8]) -> Service
-    requires { ⌜ length (now r) ≡ recordSize ⌝ }
-    ensures { λ s. ⌜ s ≡ serviceIn (now (r .entry)) ⌝ }
+pub fn service(r: &[u8]) -> Service
+    ensures { λ s. ⌜ s ≡ serviceIn (asRecord (now (r .entry))) ⌝ }
 {
+    if r.len() != Record::SIZE {
+        return Service {
+            country: 0,
+            ltn: 0,
+            sid: 0,
+        };
+    }
     Service {
         country: r[Record::COUNTRY],
         ltn: r[Record::LTN],
@@ -56,10 +64,17 @@ pub(crate) fn service(r: &[u8]) -> Service
     }
 }
 
-pub(crate) fn head(r: &[u8]) -> Head
-    requires { ⌜ length (now r) ≡ recordSize ⌝ }
-    ensures { λ h. ⌜ h ≡ headIn (now (r .entry)) ⌝ }
+pub fn head(r: &[u8]) -> Head
+    ensures { λ h. ⌜ h ≡ headIn (asRecord (now (r .entry))) ⌝ }
 {
+    if r.len() != Record::SIZE {
+        return Head {
+            direction: 0,
+            extent: 0,
+            event: 0,
+            location: 0,
+        };
+    }
     let location = location(r);
     Head {
         direction: r[Record::DIRECTION],

@@ -1,11 +1,10 @@
-// One record of the message table: its test, made from a report, freed and read back.
-mod fields;
-pub mod freeing;
-pub mod make;
-pub mod read;
-pub mod test;
+// One record of the message table: its layout, its test, and freeing it.
+ghost use mathlib.Core.Path.{_≡_};
+ghost use Rattle.record.specs.Services.{serviceFits};
 
-use report::Report;
+pub mod fields;
+pub mod freeing;
+pub mod test;
 
 // A service: country, location table number and service identifier.
 #[repr(C)]
@@ -13,6 +12,22 @@ pub struct Service {
     pub country: u8,
     pub ltn: u8,
     pub sid: u8,
+}
+
+impl Service {
+    pub const LARGEST_COUNTRY: u8 = 15;
+
+    pub const LARGEST_LTN: u8 = 63;
+
+    pub const LARGEST_SID: u8 = 63;
+
+    // Whether the fields are in their ranges.
+    pub fn fits(self) -> bool
+        ensures { λ b. ⌜ b ≡ serviceFits self ⌝ }
+    {
+        (self.country <= Self::LARGEST_COUNTRY)
+            & ((self.ltn <= Self::LARGEST_LTN) & (self.sid <= Self::LARGEST_SID))
+    }
 }
 
 // A location: its code in the location table of the service.
@@ -32,27 +47,6 @@ pub struct Key {
 pub struct Freed {
     pub expired: usize,
     pub matched: usize,
-}
-
-// What came of making a record.
-pub enum Making {
-    Made,
-    Refused(u8),
-}
-
-// Whether a record holds a report.
-pub enum Answer {
-    Free,
-    Read,
-    Refused(u8),
-}
-
-// The answer, and beside it the report, its service and when it ends: blank where there is none.
-pub struct Reading {
-    pub answer: Answer,
-    pub report: Report,
-    pub service: Service,
-    pub expiry: u32,
 }
 
 // The layout of a record.
@@ -90,4 +84,9 @@ impl Record {
     pub const CLASS: usize = 30;
 
     pub const COUNTRY: usize = 31;
+
+    // The most groups, and the largest update class; the least of both is 1.
+    pub const MOST_GROUPS: u8 = 5;
+
+    pub const LARGEST_CLASS: u8 = 63;
 }

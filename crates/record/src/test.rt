@@ -13,13 +13,16 @@ use crate::fields::four;
 impl Record {
     // The bytes that are tested at a time.
     pub const STEP: usize = 8;
+
+    // The rows of zero bits: one for free records, and one for each number of groups.
+    pub const ROWS: usize = Self::MOST_GROUPS as usize + 1;
 }
 
 // Where the last of them begin.
 const LAST: usize = Record::SIZE - Record::STEP;
 
 // The bits that are zero in each byte: a row for free records, and one for each number of groups.
-pub fn zero_bits() -> [u8; 6 * Record::SIZE]
+pub fn zero_bits() -> [u8; Record::ROWS * Record::SIZE]
     ensures { λ zs. ⌜ zs ≡ zeroBits ⌝ }
 {
     *b"\xFF\xFF\xFF\xFF\xFF\xFF\xFF\xFF\xFF\xFF\xFF\xFF\xFF\xFF\xFF\xFF\xFF\xFF\xFF\xFF\xFF\xFF\xFF\xFF\xFF\xFF\xFF\xFF\xFF\xFF\xFF\xFF\
@@ -50,7 +53,7 @@ pub fn fits(r: &[u8]) -> bool
 
 // Whether the eight bytes from byte j on, or the last eight, have zeros where their record's row of `zeros` says. With `zero_bits` a record
 // is well-formed if all its bytes have. Bytes that are not one record's have not.
-pub fn bytes_fit(r: &[u8], zeros: &[u8; 6 * Record::SIZE], j: usize) -> bool
+pub fn bytes_fit(r: &[u8], zeros: &[u8; Record::ROWS * Record::SIZE], j: usize) -> bool
     ensures { λ b. ⌜ b ≡ isRecord (now (r .entry)) && bytesZero (now (zeros .entry)) (now (r .entry)) j ⌝ }
 {
     if r.len() != Record::SIZE {
@@ -75,7 +78,8 @@ fn row_of(r: &[u8]) -> usize
     let groups = r[Record::GROUPS];
     let end = expiry(r);
     if (r[Record::MARK] != 0)
-        & (((1 <= groups) & (groups <= 5)) & ((end.0 != 0) & (r[Record::CLASS] != 0)))
+        & (((1 <= groups) & (groups <= Record::MOST_GROUPS))
+            & ((end.0 != 0) & (r[Record::CLASS] != 0)))
     {
         groups as usize
     } else {

@@ -12,15 +12,15 @@ use Rattle.bits.proofs.Choice.{and-left, and-right, chosen, passed-over}
 use Rattle.record.specs.Layout.{recordSize, freeRecord, isFree}
 use Rattle.record.specs.Matching.{matching}
 use Rattle.record.specs.Gone.{expired, either}
-use Rattle.record.specs.Made.{recordOf}
-use Rattle.record.proofs.MadeFields.{length-made}
+use Rattle.record_report.specs.Made.{recordOf}
+use Rattle.record_report.proofs.MadeFields.{length-made}
 use Rattle.table.specs.declared.Arrival.{Arrival}
-use Rattle.table.specs.Catalogue.{kindFor, classFor}
+use Rattle.table.specs.Events.{kindFor, classFor}
 use Rattle.table.specs.Steps.{afterMatching, placeIn, noRoom, afterStoring}
 use Rattle.table.specs.Take.{keyOf, matches, matchesOf, expiryFor, recordFor, checkRefusal, takeRefusal, takenTable, takeTable}
 use Rattle.table.proofs.Counts.{clash}
 use Rattle.table.proofs.Freeing.{length-both, whole-both}
-use Rattle.table.proofs.Lents.{lent-whole}
+use Rattle.lent.proofs.Lents.{lent-whole}
 use Rattle.table.proofs.Checked.{Checked, checked}
 use Rattle.table.proofs.Takes.{refused-take, accepted-take}
 

@@ -7,21 +7,26 @@ use mathlib.Core.List.{List}
 use lib.IntN.{ℤ}
 use lib.ListN.{length}
 use lib.Dec.{ltb, eqb}
-use borrow.Author.Tests.{le-leb, eqb-true, eqb-false, ltb-false, ne-eqb}
+use borrow.Author.Tests.{le-leb, eqb-false, ltb-false, ne-eqb}
 use Rattle.bits.proofs.Choice.{and-left, and-right, chosen, passed-over}
-use Rattle.clock.specs.Time.{largest, localOf, expiryOf, offsetFits}
-use Rattle.clock.proofs.Midnight.{ahead, until-midnight, after-life}
+use Rattle.clock.specs.declared.Expiry.the-variants.{At}
+use Rattle.clock.specs.Time.{largest, longestLife, offsetFits}
+use Rattle.clock.specs.Expiry.{expiryAnswer}
+use Rattle.clock.proofs.Expiries.{ends-at, expiry-fits}
 use Rattle.report.specs.Fits.{reportFits}
+use Rattle.record.specs.Services.{serviceFits}
 use Rattle.record.specs.declared.Location.{Location}
-use Rattle.record.specs.Made.{serviceFits, canMake}
+use Rattle.record_report.specs.Made.{canMake}
 use Rattle.record.specs.WellFormed.{wellFormed}
-use Rattle.record.proofs.Reports.{report-ranges}
-use Rattle.record.proofs.MadeFits.{made-fits}
+use Rattle.record_report.proofs.Reports.{report-ranges}
+use Rattle.record_report.proofs.MadeFits.{made-fits}
 use Rattle.table.specs.declared.Arrival.{Arrival}
-use Rattle.table.specs.Catalogue.{classOf, kindOf, typeOf, entryFits, entryFor, kindFor, classFor, lifeFor}
+use Rattle.lent.specs.Catalogue.{classOf, kindOf, typeOf, entryFits}
+use Rattle.table.specs.Events.{entryFor, kindFor, classFor, lifeFor}
 use Rattle.table.specs.Steps.{minuteUnfit}
-use Rattle.table.specs.Take.{lentFit, askedFit, isForeign, laterRefusal, checkRefusal, locationOf, expiryFor, recordFor}
-use Rattle.table.proofs.Lents.{lent-events, lent-entry, lent-lives, life-short}
+use Rattle.lent.specs.Lent.{lentFit}
+use Rattle.table.specs.Take.{askedFit, isForeign, laterRefusal, checkRefusal, locationOf, expiryFor, recordFor}
+use Rattle.lent.proofs.Lents.{lent-events, lent-entry, lent-lives, life-short}
 
 -- an ordinary event has an update class
 ordinary-class : (x : ℕ) → entryFits x ≡ true → kindOf x ≡ 1 → 1 ≤ classOf x
@@ -36,16 +41,6 @@ ordinary-class x h e = by-test (eqb (classOf x) 0) refl (and-right (ltb x 512) _
         let q : _≡_ {A = ℕ} 0 1 = cc in
         absurd (omega arith)
     by-test false z k = let some = eqb-false (classOf x) 0 z in omega arith
-
--- what ends, ends after minute 0 and at a minute of 32 bits
-expiry-fits : (minute : ℕ) (lto : ℤ) (life : ℕ) → minute ≤ largest → life ≤ 10080 → (1 ≤ expiryOf minute lto life) × (expiryOf minute lto life < 0x1_0000_0000)
-expiry-fits minute lto life m h = by-test (eqb life 0) refl
-  where
-    by-test : (b : Bool) → eqb life 0 ≡ b → (1 ≤ expiryOf minute lto life) × (expiryOf minute lto life < 0x1_0000_0000)
-    by-test true e =
-        let ends = until-midnight minute lto life (eqb-true life 0 e) in
-        (omega (arith, ends, ahead (localOf minute lto)), omega (arith, ends, ahead (localOf minute lto)))
-    by-test false e = let some = eqb-false life 0 e in let ends = after-life minute lto life some in (omega (arith, ends), omega (arith, ends))
 
 -- a minute that is not refused is not below the last one, and not too large
 pub minute-fits : (last minute : ℕ) → minuteUnfit last minute ≡ false → (last ≤ minute) × (minute ≤ largest)
@@ -107,11 +102,21 @@ module _ (t c l : List ℕ) (last : ℕ) (a : Arrival) (lto : ℤ) where
     pub life-inside : 8 * typeOf (entryFor c (a .report)) + a .report .duration < length l
     life-inside = omega (arith, report-ranges (a .report) (asked-report (ok .asked)) .duration-lt, lent-lives t c l (ok .lent))
 
-    ends : (1 ≤ expiryFor c l a lto) × (expiryFor c l a lto < 0x1_0000_0000)
-    ends = expiry-fits (a .minute .0) lto (lifeFor c l (a .report)) (minute-fits last (a .minute .0) (ok .minute-fit) .1) (life-short t c l (ok .lent) (8 * typeOf (entryFor c (a .report)) + a .report .duration) life-inside)
+    short : lifeFor c l (a .report) ≤ longestLife
+    short = life-short t c l (ok .lent) (8 * typeOf (entryFor c (a .report)) + a .report .duration) life-inside
 
-    pub expiry-short : expiryFor c l a lto < 0x1_0000_0000
-    expiry-short = ends .1
+    early : a .minute .0 ≤ largest
+    early = minute-fits last (a .minute .0) (ok .minute-fit) .1
+
+    ends : (1 ≤ expiryFor c l a lto) × (expiryFor c l a lto < 0x1_0000_0000)
+    ends = expiry-fits (a .minute .0) lto (lifeFor c l (a .report)) short early
+
+    -- the clock refuses nothing
+    pub expiry-is : expiryAnswer (a .minute .0) lto (lifeFor c l (a .report)) ≡ At (record { 0 = expiryFor c l a lto })
+    unfolding askedFit
+    expiry-is =
+        let rest = and-right (reportFits (a .report)) (serviceFits (a .service) && offsetFits lto) (ok .asked) in
+        ends-at (a .minute .0) lto (lifeFor c l (a .report)) short early (and-right (serviceFits (a .service)) (offsetFits lto) rest)
 
     pub can-make : kindFor c (a .report) ≡ 1 → canMake (a .report) (a .service) (classFor c (a .report)) (expiryFor c l a lto) ≡ true
     unfolding canMake askedFit
@@ -123,4 +128,4 @@ module _ (t c l : List ℕ) (last : ℕ) (a : Arrival) (lto : ℤ) where
         both _ _ (both _ _ service (both _ _ (both _ _ (le-leb 1 class some) (le-leb class 63 (omega arith))) (le-leb 1 (expiryFor c l a lto) (ends .0)))) (asked-report (ok .asked))
 
     pub record-fits : kindFor c (a .report) ≡ 1 → wellFormed (recordFor c l a lto) ≡ true
-    record-fits kind = made-fits (a .report) (a .service) (classFor c (a .report)) (expiryFor c l a lto) (can-make kind) expiry-short
+    record-fits kind = made-fits (a .report) (a .service) (classFor c (a .report)) (expiryFor c l a lto) (can-make kind) (ends .1)

@@ -8,7 +8,8 @@ use lib.ListN.{length, set, getD}
 use Rattle.bits.specs.Bits.{num}
 use Rattle.bits.proofs.Choice.{and-left, and-right}
 use Rattle.record.specs.Gone.{either, onlySecond}
-use Rattle.table.specs.Records.{allOf, countIf, firstOf}
+use Rattle.lent.specs.Records.{allOf}
+use Rattle.table.specs.Records.{countIf, firstOf}
 
 pub num-le : (b : Bool) → num b ≤ 1
 unfolding num

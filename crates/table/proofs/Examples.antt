@@ -14,16 +14,19 @@ use Rattle.report.specs.Fits.{singleFits, fitsBy, reportFits}
 use Rattle.record.specs.Layout.{freeRecord}
 use Rattle.record.specs.Matching.{matching}
 use Rattle.record.specs.Gone.{expired, freedIf}
-use Rattle.record.specs.Made.{expiryBytes}
+use Rattle.record_report.specs.Made.{expiryBytes}
 use Rattle.record.specs.WellFormed.{widths, within, rangesFit, marked, complete, restFits, wellFormed}
 use Rattle.table.specs.declared.Arrival.{Arrival}
 use Rattle.table.specs.declared.Answer.the-variants.{Freed, Stored, Refused}
-use Rattle.table.specs.Records.{chunks, records, joined, allOf, countIf, firstOf, over, countWhere, lowestFree}
-use Rattle.table.specs.Lent.{sized, tableFits}
-use Rattle.table.specs.Catalogue.{entryFits, catalogueFits, livesFit}
+use Rattle.lent.specs.Records.{chunks, records, allOf}
+use Rattle.table.specs.Records.{joined, countIf, firstOf, over, countWhere, lowestFree}
+use Rattle.lent.specs.Table.{sized, tableFits}
+use Rattle.lent.specs.Catalogue.{entryFits, catalogueFits}
+use Rattle.lent.specs.Lives.{livesFit}
 use Rattle.table.specs.Steps.{step, afterMatching, matchedIn, placeIn}
 use Rattle.table.specs.Expire.{expireRefusal, expireStep, expireTable}
-use Rattle.table.specs.Take.{matches, lentFit, askedFit, laterRefusal, checkRefusal, takeRefusal, takenStep, takeStep}
+use Rattle.table.specs.Take.{matches, askedFit, laterRefusal, checkRefusal, takeRefusal, takenStep, takeStep}
+use Rattle.lent.specs.Lent.{lentFit}
 
 -- a table of one record, which ends at minute 100
 abbrev pub until-100 : List ℕ

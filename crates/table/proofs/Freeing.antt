@@ -10,7 +10,8 @@ use Rattle.bits.specs.Bits.{num}
 use Rattle.record.specs.Layout.{recordSize, freeRecord, isFree}
 use Rattle.record.specs.Gone.{expired, either, onlySecond, freedIf, oneRecord}
 use Rattle.record.proofs.Steps.{freed, unfreed, one-record, one-freed}
-use Rattle.table.specs.Records.{chunks, records, joined, countIf, firstOf, over, freeWhere, countWhere, lowestFree}
+use Rattle.lent.specs.Records.{chunks, records}
+use Rattle.table.specs.Records.{joined, countIf, firstOf, over, freeWhere, countWhere, lowestFree}
 use Rattle.table.specs.Steps.{afterMatching, matchedIn, placeIn}
 use Rattle.table.proofs.Counts.{num-le, count-le, count-map, count-none, count-within, first-none}
 use Rattle.table.proofs.Sweeps.{Keeps, length-chunks, length-records, swept, part-sized, swept-next, count-next, length-over, records-over, over-over}

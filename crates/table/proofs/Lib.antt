@@ -1,9 +1,8 @@
-pub mod Passes
+pub mod Searching
 pub mod Counts
 pub mod Sweeps
 pub mod Storing
 pub mod Freeing
-pub mod Lents
 pub mod Checked
 pub mod Takes
 pub mod Accepted

@@ -7,8 +7,9 @@ use lib.ListN.{length, take, drop, set, length-drop, take-append-drop}
 use lib.Seq.{take-add, drop-drop, take-at, drop-at, length-take-le}
 use borrow.Rule.Slice.PartMut.{putMid, same-len-mid}
 use Rattle.record.specs.Layout.{recordSize}
-use Rattle.table.specs.Records.{chunks, records, joined, stored}
-use Rattle.table.proofs.Passes.{part-is, length-nth}
+use Rattle.lent.specs.Records.{chunks, records}
+use Rattle.table.specs.Records.{joined, stored}
+use Rattle.lent.proofs.Passes.{part-is, length-nth}
 
 pub joined-chunks : (n : ℕ) (t : List ℕ) → length t ≡ n * recordSize → joined (chunks n t) ≡ t
 unfolding joined chunks

@@ -10,9 +10,9 @@ use lib.Seq.{drop-drop, take-at, drop-at, length-take-le}
 use borrow.Rule.Slice.PartMut.{putMid}
 use Rattle.bits.specs.Bits.{num}
 use Rattle.record.specs.Layout.{recordSize}
-use Rattle.record.proofs.Filling.{next-part}
-use Rattle.table.specs.Records.{chunks, records, joined, countIf, over, countWhere}
-use Rattle.table.proofs.Passes.{nth, part-is, length-nth}
+use Rattle.lent.specs.Records.{chunks, records}
+use Rattle.table.specs.Records.{joined, countIf, over, countWhere}
+use Rattle.lent.proofs.Passes.{nth, part-is, length-nth}
 use Rattle.table.proofs.Counts.{count-snoc}
 
 -- a function of a record that keeps its length
@@ -46,6 +46,11 @@ joined-snoc : (f : List ℕ → List ℕ) (rs : List (List ℕ)) (r : List ℕ) 
 unfolding joined
 joined-snoc f [] r = append-nil (f r)
 joined-snoc f (x ∷ rs) r = ap (λ (l : List ℕ). f x ++ l) (joined-snoc f rs r) ∙ sym (append-assoc (f x) (joined (map f rs)) (f r))
+
+-- a part after what is written already
+next-part : (a k : ℕ) (p q ys : List ℕ) → length p ≡ a → putMid a k (p ++ q) ys ≡ (p ++ ys) ++ drop k q
+next-part a k p q ys e =
+    ap₂ (λ (x y : List ℕ). x ++ (ys ++ drop k y)) (take-at p q a e) (drop-at p q a e) ∙ sym (append-assoc p ys (drop k q))
 
 -- after i records
 abbrev pub swept : (List ℕ → List ℕ) → ℕ → List ℕ → List ℕ

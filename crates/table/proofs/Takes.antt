@@ -15,8 +15,8 @@ use Rattle.record.specs.Matching.{matching}
 use Rattle.table.specs.declared.Arrival.{Arrival}
 use Rattle.table.specs.declared.Step.{Step}
 use Rattle.table.specs.declared.Answer.the-variants.{Freed, Stored, Refused}
-use Rattle.table.specs.Lent.{tableFits}
-use Rattle.table.specs.Catalogue.{kindFor}
+use Rattle.lent.specs.Table.{tableFits}
+use Rattle.table.specs.Events.{kindFor}
 use Rattle.table.specs.Steps.{step, minuteUnfit, afterExpiry, expiredIn, afterMatching, matchedIn, placeIn, noRoom, afterStoring}
 use Rattle.table.specs.Expire.{expireRefusal, expireStep, expireTable}
 use Rattle.table.specs.Take.{keyOf, matches, matchesOf, recordFor, checkRefusal, takeRefusal, takenStep, takenTable, takeStep, takeTable}

@@ -14,19 +14,20 @@ use Rattle.bits.specs.Bits.{num}
 use Rattle.bits.proofs.Choice.{and-left, chosen, passed-over}
 use Rattle.content.specs.Stored.{limit}
 use Rattle.report.specs.Record.{groupsOf}
-use Rattle.record.specs.declared.Answer.the-variants.{Read}
+use Rattle.record_report.specs.declared.Answer.the-variants.{Read}
 use Rattle.record.specs.Layout.{recordSize, freeRecord, groupsIn}
 use Rattle.record.specs.Matching.{matching}
 use Rattle.record.specs.Gone.{expired, either, freedIf}
 use Rattle.record.specs.WellFormed.{wellFormed}
-use Rattle.record.specs.Reads.{readingIn}
+use Rattle.record_report.specs.Reads.{readingIn}
 use Rattle.record.proofs.FreeFits.{free-fits}
-use Rattle.record.proofs.MadeFields.{groups-back, made-matches}
-use Rattle.record.proofs.WayBack.{reading-back}
+use Rattle.record_report.proofs.MadeFields.{groups-back, made-matches}
+use Rattle.record_report.proofs.WayBack.{reading-back}
 use Rattle.table.specs.declared.Arrival.{Arrival}
-use Rattle.table.specs.Records.{records, allOf, countIf, freeWhere, stored}
-use Rattle.table.specs.Lent.{sized, tableFits}
-use Rattle.table.specs.Catalogue.{kindFor, classFor}
+use Rattle.lent.specs.Records.{records, allOf}
+use Rattle.table.specs.Records.{countIf, freeWhere, stored}
+use Rattle.lent.specs.Table.{sized, tableFits}
+use Rattle.table.specs.Events.{kindFor, classFor}
 use Rattle.table.specs.Steps.{afterMatching, placeIn, afterStoring}
 use Rattle.table.specs.Expire.{expireRefusal, expireTable}
 use Rattle.table.specs.Take.{keyOf, matches, matchesOf, expiryFor, recordFor, takeRefusal, takenTable, takeTable}
@@ -35,7 +36,7 @@ use Rattle.table.proofs.Counts.{count-map, count-none, count-set, all-m
 use Rattle.table.proofs.Sweeps.{length-records, length-over, records-over}
 use Rattle.table.proofs.Storing.{length-stored, records-stored}
 use Rattle.table.proofs.Freeing.{freed-either, freed-keeps, each-record, second-gone, length-both, records-both, both-at-once}
-use Rattle.table.proofs.Lents.{table-whole, table-records, lent-table}
+use Rattle.lent.proofs.Lents.{table-whole, table-records, lent-table}
 use Rattle.table.proofs.Checked.{asked-report, record-fits}
 use Rattle.table.proofs.Takes.{accepted-take}
 use Rattle.table.proofs.Accepted.{matches-never, made-sized, ok, whole, inside, both-whole, both-inside, after-take}
@@ -155,7 +156,7 @@ module _ (t c l : List ℕ) (last : ℕ) (a : Arrival) (lto : ℤ) where
           ap (countIf match) stored-records ∙ omega (arith, count-set match freed place (recordFor c l a lto) freeRecord room, none-left, old, new)
 
       -- and reads back as that report, with its service and its expiry
-      pub stored-reads : length (a .report .items .places) ≡ limit → recordAt after place ≡ record { answer = Read; report = a .report; service = a .service; expiry = expiryFor c l a lto }
+      pub stored-reads : length (a .report .items .places) ≡ limit → recordAt after place ≡ record { answer = Read; report = a .report; service = a .service; expiry = record { 0 = expiryFor c l a lto } }
       unfolding recordAt
       stored-reads sized =
           let within : leb (length after / recordSize) place ≡ false = lt-leb (length after / recordSize) place (subst (λ (n : ℕ). place < n / recordSize) (sym same-length) (inside t c l last a lto fine is-1)) in

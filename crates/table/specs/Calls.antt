@@ -7,7 +7,7 @@ use lib.Dec.{eqb}
 use Rattle.record.specs.Layout.{freeRecord}
 use Rattle.table.specs.declared.Arrival.{Arrival}
 use Rattle.table.specs.declared.Step.{Step}
-use Rattle.table.specs.Catalogue.{kindFor}
+use Rattle.table.specs.Events.{kindFor}
 use Rattle.table.specs.Expire.{expireStep, expireTable}
 use Rattle.table.specs.Take.{matchesOf, recordFor, takeStep, takeTable}
 

@@ -8,7 +8,8 @@ use Rattle.record.specs.Layout.{isFree}
 use Rattle.record.specs.Gone.{expired, either, onlySecond, freedIf}
 use Rattle.table.specs.declared.Step.{Step}
 use Rattle.table.specs.declared.Answer.the-variants.{Freed, Stored, Refused}
-use Rattle.table.specs.Records.{records, countIf, firstOf}
+use Rattle.lent.specs.Records.{records}
+use Rattle.table.specs.Records.{countIf, firstOf}
 use Rattle.table.specs.Steps.{step}
 use Rattle.table.specs.Calls.{Call, minuteOf, matchOf, storesOf, madeOf}
 

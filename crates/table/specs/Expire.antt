@@ -5,7 +5,7 @@ use mathlib.Core.List.{List}
 use lib.Dec.{eqb}
 use Rattle.table.specs.declared.Step.{Step}
 use Rattle.table.specs.declared.Answer.the-variants.{Freed, Refused}
-use Rattle.table.specs.Lent.{tableFits}
+use Rattle.lent.specs.Table.{tableFits}
 use Rattle.table.specs.Steps.{step, minuteUnfit, afterExpiry, expiredIn}
 
 -- the first refusal, or 0

@@ -1,6 +1,5 @@
+pub mod Events
 pub mod Records
-pub mod Lent
-pub mod Catalogue
 pub mod Steps
 pub mod Expire
 pub mod Read

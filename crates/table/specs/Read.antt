@@ -4,12 +4,12 @@ use mathlib.Core.Bool.{cond}
 use mathlib.Core.List.{List}
 use lib.ListN.{length, getD}
 use lib.Dec.{leb}
-use Rattle.record.specs.declared.Reading.{Reading}
-use Rattle.record.specs.declared.Answer.the-variants.{Refused}
+use Rattle.record_report.specs.declared.Reading.{Reading}
+use Rattle.record_report.specs.declared.Answer.the-variants.{Refused}
 use Rattle.record.specs.Layout.{recordSize, freeRecord}
-use Rattle.record.specs.Reads.{nothing, readingIn}
-use Rattle.table.specs.Records.{records}
-use Rattle.table.specs.Lent.{tableFits}
+use Rattle.record_report.specs.Reads.{nothing, readingIn}
+use Rattle.lent.specs.Records.{records}
+use Rattle.lent.specs.Table.{tableFits}
 
 unfoldable pub recordAt : List ℕ → ℕ → Reading
 recordAt t i =

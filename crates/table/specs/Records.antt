@@ -1,29 +1,17 @@
--- The table as a list of records (document 01, "The message table").
-use Prim.Native.Nat.{ℕ, zero, suc, _+_, _/_}
-use mathlib.Core.Bool.{Bool, true, cond, _&&_}
+-- The records of a table counted, searched and changed (document 01, "The message table").
+use Prim.Native.Nat.{ℕ, suc, _+_}
+use mathlib.Core.Bool.{Bool, cond}
 use mathlib.Core.List.{List, [], _∷_, _++_, map}
-use lib.ListN.{length, take, drop, set}
+use lib.ListN.{set}
 use Rattle.bits.specs.Bits.{num}
-use Rattle.record.specs.Layout.{recordSize, isFree}
+use Rattle.record.specs.Layout.{isFree}
 use Rattle.record.specs.Gone.{freedIf}
-
--- the first n records of bytes
-unfoldable pub chunks : ℕ → List ℕ → List (List ℕ)
-chunks zero t = []
-chunks (suc n) t = take recordSize t ∷ chunks n (drop recordSize t)
-
-unfoldable pub records : List ℕ → List (List ℕ)
-records t = chunks (length t / recordSize) t
+use Rattle.lent.specs.Records.{records}
 
 -- the bytes of records
 unfoldable pub joined : List (List ℕ) → List ℕ
 joined [] = []
 joined (r ∷ rs) = r ++ joined rs
-
--- a test holds of every one
-unfoldable pub allOf : {A : Type 0} → (A → Bool) → List A → Bool
-allOf p [] = true
-allOf p (x ∷ xs) = p x && allOf p xs
 
 -- how many a test holds of
 unfoldable pub countIf : (List ℕ → Bool) → List (List ℕ) → ℕ

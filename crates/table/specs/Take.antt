@@ -7,16 +7,17 @@ use lib.Dec.{eqb, leb}
 use Rattle.clock.specs.Time.{offsetFits, expiryOf}
 use Rattle.report.specs.declared.Report.{Report}
 use Rattle.report.specs.Fits.{reportFits}
+use Rattle.record.specs.Services.{serviceFits}
 use Rattle.record.specs.declared.Service.{Service}
 use Rattle.record.specs.declared.Location.{Location}
 use Rattle.record.specs.declared.Key.{Key}
 use Rattle.record.specs.Matching.{matching}
-use Rattle.record.specs.Made.{serviceFits, recordOf}
+use Rattle.record_report.specs.Made.{recordOf}
 use Rattle.table.specs.declared.Arrival.{Arrival}
 use Rattle.table.specs.declared.Step.{Step}
 use Rattle.table.specs.declared.Answer.the-variants.{Freed, Stored, Refused}
-use Rattle.table.specs.Lent.{tableFits}
-use Rattle.table.specs.Catalogue.{catalogueFits, livesFit, kindFor, classFor, lifeFor}
+use Rattle.lent.specs.Lent.{lentFit}
+use Rattle.table.specs.Events.{kindFor, classFor, lifeFor}
 use Rattle.table.specs.Steps.{step, minuteUnfit, expiredIn, afterMatching, matchedIn, placeIn, noRoom, afterStoring}
 
 -- the location of a report
@@ -41,10 +42,6 @@ expiryFor catalogue lives a lto = expiryOf (a .minute .0) lto (lifeFor catalogue
 
 abbrev pub recordFor : (catalogue lives : List ℕ) → Arrival → ℤ → List ℕ
 recordFor catalogue lives a lto = recordOf (a .report) (a .service) (classFor catalogue (a .report)) (expiryFor catalogue lives a lto)
-
--- the table, the catalogue and the lives are well-formed
-unfoldable pub lentFit : (t catalogue lives : List ℕ) → Bool
-lentFit t catalogue lives = tableFits t && (catalogueFits catalogue && livesFit lives)
 
 -- the report is one that a writer takes, the service and the offset are in their ranges
 unfoldable pub askedFit : Report → Service → ℤ → Bool

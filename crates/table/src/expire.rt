@@ -11,8 +11,8 @@ use crate::Step;
 use crate::Table;
 use crate::refused;
 use crate::sweep::sweep_expired;
-use crate::well_formed::table_fits;
 use clock::Utc;
+use lent::table::table_fits;
 
 impl Table {
     // Frees every record whose expiry is at or below the minute. A malformed table is refused (10), then a minute below the last one

@@ -2,13 +2,11 @@
 ghost use mathlib.Core.Path.{_≡_};
 ghost use Rattle.table.specs.declared.Answer.the-variants.{Refused};
 
-mod catalogue;
 mod expire;
 mod read;
 mod search;
 mod sweep;
 mod take;
-mod well_formed;
 
 use clock::Utc;
 use record::Service;
@@ -41,21 +39,10 @@ pub struct Step {
     pub answer: Answer,
 }
 
-// The limits of what a call is lent.
+// The calls on a table.
 pub struct Table;
 
 impl Table {
-    // The most records of a table.
-    pub const RECORDS: usize = 1024;
-
-    // The entries of a catalogue.
-    pub const EVENTS: usize = 2048;
-
-    // The lives, and the longest of them in minutes.
-    pub const LIVES: usize = 16;
-
-    pub const LONGEST_LIFE: u16 = 10080;
-
     // Location codes below this are of the service's own table.
     pub const FOREIGN: u16 = 0xFC00;
 }

@@ -2,11 +2,11 @@
 ghost use mathlib.Core.Path.{_≡_};
 ghost use Rattle.table.specs.Read.{recordAt};
 use crate::Table;
-use crate::well_formed::table_fits;
-use record::Answer;
-use record::Reading;
+use lent::table::table_fits;
 use record::Record;
-use record::read::nothing;
+use record_report::Answer;
+use record_report::Reading;
+use record_report::read::nothing;
 
 impl Table {
     // The report, service and expiry of record i, or that it is free. A malformed table is refused (10), then a place past the last
@@ -22,6 +22,6 @@ impl Table {
         }
         let a = i * Record::SIZE;
         let e = a + Record::SIZE;
-        record::read::read(&t[a..e])
+        record_report::read::read(&t[a..e])
     }
 }

@@ -5,31 +5,31 @@ ghost use Prim.Native.Nat.{_/_, _%_, _<_};
 ghost use lib.ListN.{length};
 ghost use Rattle.record.specs.Layout.{recordSize};
 ghost use Rattle.record.specs.Matching.{matching};
-ghost use Rattle.record.specs.Made.{recordOf, canMake};
+ghost use Rattle.record_report.specs.Made.{recordOf, canMake};
 ghost use Rattle.table.specs.declared.Answer.the-variants.{Freed, Stored, Refused};
 ghost use Rattle.table.specs.Records.{stored};
 ghost use Rattle.table.specs.Steps.{step, expiredIn, afterMatching, matchedIn, placeIn, noRoom, afterStoring};
-ghost use Rattle.table.specs.Take.{lentFit, askedFit, laterRefusal, checkRefusal, takeStep, takeTable};
+ghost use Rattle.table.specs.Take.{askedFit, laterRefusal, checkRefusal, takeStep, takeTable};
 use crate::Answer;
 use crate::Arrival;
 use crate::Step;
 use crate::Table;
-use crate::catalogue::Entry;
-use crate::catalogue::catalogue_fits;
-use crate::catalogue::lives_fit;
 use crate::expire::free_expired;
 use crate::expire::minute_unfit;
 use crate::refused;
 use crate::search::find_free;
 use crate::sweep::sweep_gone;
-use crate::well_formed::table_fits;
+use clock::Expiry;
 use clock::Utc;
 use clock::offset_fits;
+use lent::Lent;
+use lent::catalogue::Entry;
+use lent::lent_fit;
 use record::Key;
 use record::Location;
 use record::Record;
 use record::Service;
-use record::make::put;
+use record_report::make::put;
 use report::Report;
 
 impl Table {
@@ -75,13 +75,6 @@ fn check(t: &[u8], catalogue: &[u16], lives: &[u16], last: Utc, arrival: Arrival
         code: head.location,
     };
     later_refusal(last, minute, location, entry.kind())
-}
-
-// Whether the table, the catalogue and the lives are well-formed.
-fn lent_fit(t: &[u8], catalogue: &[u16], lives: &[u16]) -> bool
-    ensures { λ b. ⌜ b ≡ lentFit (now (t .entry)) (now (catalogue .entry)) (now (lives .entry)) ⌝ }
-{
-    table_fits(t) & (catalogue_fits(catalogue) & lives_fit(lives))
 }
 
 // Whether the report, the service and the offset are in their ranges.
@@ -141,9 +134,12 @@ fn take_checked(
     if kind == Entry::CANCELLING {
         return take_cancelling(t, minute, key);
     }
-    let life = lives[8 * entry.duration_type() as usize + report.duration as usize];
-    let expiry = Utc(minute.expiry(lto, life) as u32);
-    take_ordinary(t, last, minute, report, key, expiry)
+    let life = lives[Lent::DURATIONS * entry.duration_type() as usize + report.duration as usize];
+    let expiry = minute.expiry(lto, life);
+    match expiry {
+        Expiry::At(end) => take_ordinary(t, last, minute, report, key, end),
+        Expiry::Refused(n) => refused(last, n),
+    }
 }
 
 // A cancelling message frees the expired and the matching records.

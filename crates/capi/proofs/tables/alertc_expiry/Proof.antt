@@ -9,4 +9,5 @@ alertc-expiry-spec =
     tie.close
     (tie.spec
     (search needs)
-    (λ c. cc (toZ-ofZ w8 (c .before .args .lto) (c .before .fits .lto))))
+    (search needs)
+    (λ c. cc (toZ-ofZ w8 (c .before .before .args .lto) (c .before .before .fits .lto))))

@@ -10,4 +10,4 @@ unfolding toMidnight
 returns c = refl
 
 pub to-midnight-spec : {M : Type 1} → statement M
-to-midnight-spec = tie.close (tie.spec (search needs) returns)
+to-midnight-spec = tie.close (tie.spec (search needs) (search needs) returns)

@@ -4,7 +4,7 @@ use mathlib.Core.Bool.{true, false}
 use native.Mathlib.Omega.{arith}
 use borrow.Author.Tests.{not-true, not-false}
 use Rattle.table.specs.Steps.{minuteUnfit}
-use Rattle.table.proofs.Lents.{table-whole}
+use Rattle.lent.proofs.Lents.{table-whole}
 use Rattle.table.proofs.Takes.{refused-expiry, expiry-by, accepted-expiry}
 use borrow.Author.Needs.{needs}
 use Rattle.table.proofs.Table.expire.Statement.{statement}

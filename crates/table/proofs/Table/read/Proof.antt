@@ -7,13 +7,13 @@ use borrow.Author.Tests.{not-true, not-false, le-leb, lt-leb}
 use Rattle.bits.proofs.Choice.{chosen, passed-over}
 use Rattle.record.specs.Layout.{recordSize}
 use Rattle.record.specs.WellFormed.{wellFormed}
-use Rattle.record.specs.Reads.{readingIn, readingOf}
-use Rattle.record.proofs.Steps.{fit-reading}
-use Rattle.table.specs.Records.{records}
-use Rattle.table.specs.Lent.{tableFits}
+use Rattle.record_report.specs.Reads.{readingIn, readingOf}
+use Rattle.record_report.proofs.Readings.{fit-reading}
+use Rattle.lent.specs.Records.{records}
+use Rattle.lent.specs.Table.{tableFits}
 use Rattle.table.specs.Read.{recordAt}
-use Rattle.table.proofs.Passes.{nth, part-is, length-nth}
-use Rattle.table.proofs.Lents.{table-records, chunk-at, all-at}
+use Rattle.lent.proofs.Passes.{nth, part-is, length-nth}
+use Rattle.lent.proofs.Lents.{table-records, chunk-at, all-at}
 use borrow.Author.Needs.{needs}
 use Rattle.table.proofs.Table.read.Statement.{statement}
 use Rattle.table.proofs.Table.read.Tie as tie

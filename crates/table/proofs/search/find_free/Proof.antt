@@ -7,8 +7,10 @@ use lib.ListN.{length, drop}
 use lib.Dec.{eqb}
 use borrow.Author.Tests.{eq-eqb, ne-eqb}
 use Rattle.record.specs.Layout.{recordSize, isFree}
-use Rattle.table.specs.Records.{chunks, records, firstOf, lowestFree}
-use Rattle.table.proofs.Passes.{nth, first-byte, rest-whole, first-here, first-later, first-end}
+use Rattle.lent.specs.Records.{chunks, records}
+use Rattle.table.specs.Records.{firstOf, lowestFree}
+use Rattle.lent.proofs.Passes.{nth, first-byte, rest-whole}
+use Rattle.table.proofs.Searching.{first-here, first-later, first-end}
 use Rattle.table.proofs.search.find_free.Statement.{statement}
 use Rattle.table.proofs.search.find_free.Tie as tie
 

@@ -5,7 +5,8 @@ use native.Mathlib.Omega.{arith}
 use lib.ListN.{length}
 use Rattle.record.specs.Layout.{recordSize}
 use Rattle.record.specs.Gone.{expired, freedIf}
-use Rattle.table.specs.Records.{chunks, countIf}
+use Rattle.lent.specs.Records.{chunks}
+use Rattle.table.specs.Records.{countIf}
 use Rattle.table.proofs.Sweeps.{swept, swept-none, swept-all, counted-all, length-swept}
 use Rattle.table.proofs.Freeing.{freed-keeps, freed-next, counted-next}
 use borrow.Author.Needs.{needs}

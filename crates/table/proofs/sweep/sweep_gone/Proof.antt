@@ -7,7 +7,8 @@ use Rattle.record.specs.declared.Freed.{Freed}
 use Rattle.record.specs.Layout.{recordSize}
 use Rattle.record.specs.Matching.{matching}
 use Rattle.record.specs.Gone.{expired, either, onlySecond, freedIf}
-use Rattle.table.specs.Records.{chunks, countIf}
+use Rattle.lent.specs.Records.{chunks}
+use Rattle.table.specs.Records.{countIf}
 use Rattle.table.proofs.Sweeps.{swept, swept-none, swept-all, counted-all, length-swept}
 use Rattle.table.proofs.Freeing.{freed-keeps, freed-next, counted-next, both-at-once, matched-counted}
 use Rattle.table.proofs.Takes.{never-free}

@@ -4,9 +4,9 @@ use mathlib.Core.Path.{ap, _∙_}
 use mathlib.Core.List.{List}
 use borrow.Rule.Slice.PartMut.{putMid}
 use Rattle.record.specs.Layout.{recordSize}
-use Rattle.record.specs.Made.{recordOf}
-use Rattle.record.proofs.Makings.{bytes-made}
-use Rattle.table.proofs.Passes.{length-part}
+use Rattle.record_report.specs.Made.{recordOf}
+use Rattle.record_report.proofs.Makings.{bytes-made}
+use Rattle.lent.proofs.Passes.{length-part}
 use Rattle.table.proofs.Storing.{put-stored}
 use borrow.Author.Needs.{needs}
 use Rattle.table.proofs.take.put_at.Statement.{statement}

@@ -8,17 +8,22 @@ use lib.IntN.{ℤ}
 use lib.ListN.{getD}
 use mir.Syntax.{w8}
 use mir.ValLaws.{toZ-ofZ}
-use Rattle.clock.specs.Time.{expiryOf}
+use Rattle.clock.specs.declared.Utc.{Utc}
+use Rattle.clock.specs.declared.Expiry.{Expiry}
+use Rattle.clock.specs.declared.Expiry.the-variants as expiry
+use Rattle.clock.specs.Expiry.{expiryAnswer}
+use Rattle.clock.specs.Answers.{minuteOf}
 use Rattle.record.specs.declared.Key.{Key}
 use Rattle.record.specs.Matching.{matching}
-use Rattle.record.specs.Made.{recordOf, canMake}
+use Rattle.record_report.specs.Made.{recordOf, canMake}
 use Rattle.table.specs.declared.Arrival.{Arrival}
 use Rattle.table.specs.declared.Answer.the-variants.{Freed, Stored, Refused}
-use Rattle.table.specs.Catalogue.{typeOf, entryFor, kindFor}
+use Rattle.lent.specs.Catalogue.{typeOf}
+use Rattle.table.specs.Events.{entryFor, kindFor}
 use Rattle.table.specs.Steps.{step, expiredIn, afterMatching, matchedIn, placeIn, noRoom, afterStoring}
 use Rattle.table.specs.Take.{locationOf, expiryFor}
-use Rattle.table.proofs.Lents.{lent-whole}
-use Rattle.table.proofs.Checked.{Checked, checked, event-inside, life-inside, expiry-short, can-make, kinds}
+use Rattle.lent.proofs.Lents.{lent-whole}
+use Rattle.table.proofs.Checked.{Checked, checked, event-inside, life-inside, expiry-is, can-make, kinds}
 use Rattle.table.proofs.Takes.{null-way, cancelling-way, ordinary-way}
 use borrow.Author.Needs.{needs}
 use Rattle.table.proofs.take.take_checked.Statement.{statement}
@@ -75,17 +80,14 @@ life c =
     let ok = checked (a .t .now) (a .catalogue .now) (a .lives .now) (a .last .0) (a .arrival) (a .lto) (s .pre) in
     omega (arith, c .before .before .duration-type .ensures, life-inside (a .t .now) (a .catalogue .now) (a .lives .now) (a .last .0) (a .arrival) (a .lto) ok)
 
--- when the report ends, as the code finds it
-ends-at : (v : Arrival) (k l : List ℕ) (lto z : ℤ) (n expiry : ℕ) → z ≡ lto → n ≡ typeOf (entryFor k (v .report)) → expiry ≡ expiryOf (v .minute .0) z (getD l (8 * n + v .report .duration) 0) → expiry ≡ expiryFor k l v lto
-ends-at v k l lto z n expiry e f g = g ∙ ap₂ (λ (x : ℤ) (y : ℕ). expiryOf (v .minute .0) x (getD l (8 * y + v .report .duration) 0)) e f
+-- when the report ends, as the clock answers it: nothing is refused
+clock-told : (t k l : List ℕ) (last : ℕ) (v : Arrival) (lto z : ℤ) (n : ℕ) (x : Expiry) → Checked t k l last v lto → z ≡ lto → n ≡ typeOf (entryFor k (v .report))
+    → x ≡ expiryAnswer (v .minute .0) z (getD l (8 * n + v .report .duration) 0) → x ≡ expiry.At (record { 0 = expiryFor k l v lto })
+clock-told t k l last v lto z n x ok e f g =
+    g ∙ ap₂ (λ (y : ℤ) (m : ℕ). expiryAnswer (v .minute .0) y (getD l (8 * m + v .report .duration) 0)) e f ∙ expiry-is t k l last v lto ok
 
-ends : tie.Need-cast-t33
-ends c =
-    let s = c .before .before .before .before .before .before .before .before .before .before .before .before .before .before .before .before .before in
-    let a = s .args in
-    let ok = checked (a .t .now) (a .catalogue .now) (a .lives .now) (a .last .0) (a .arrival) (a .lto) (s .pre) in
-    let e = ends-at (a .arrival) (a .catalogue .now) (a .lives .now) (a .lto) _ _ (c .expiry .result) (toZ-ofZ w8 (a .lto) (s .fits .lto)) (c .before .before .before .duration-type .ensures) (c .expiry .ensures) in
-    omega (arith, e, expiry-short (a .t .now) (a .catalogue .now) (a .lives .now) (a .last .0) (a .arrival) (a .lto) ok)
+never-refused : (n : ℕ) (end : Utc) → expiry.Refused n ≡ expiry.At end → ⊥
+never-refused n end e = let z : _≡_ {A = ℕ} 0 1 = cc in omega arith
 
 -- an event that is neither null nor cancelling is ordinary
 is-ordinary : (t k l : List ℕ) (last : ℕ) (v : Arrival) (lto : ℤ) (n : ℕ) → Checked t k l last v lto → n ≡ kindFor k (v .report) → (n ≡ 3 → ⊥) → (n ≡ 2 → ⊥) → kindFor k (v .report) ≡ 1
@@ -93,33 +95,49 @@ is-ordinary t k l last v lto n ok e not-3 not-2 = omega (arith, kinds t k l last
 
 take-ordinary-requires : tie.Need-take-ordinary-requires
 take-ordinary-requires c κs =
-    let s = c .before .before .before .before .before .before .before .before .before .before .before .before .before .before .before .before .before .before in
+    let x = c .before .before .before .before in
+    let y = x .before in
+    let s = y .before .before .before .before .before .before .before .before .before .before .before .before .before .before .before .before in
     let a = s .args in
     let ok = checked (a .t .now) (a .catalogue .now) (a .lives .now) (a .last .0) (a .arrival) (a .lto) (s .pre) in
-    let is-1 = is-ordinary (a .t .now) (a .catalogue .now) (a .lives .now) (a .last .0) (a .arrival) (a .lto) _ ok (c .before .before .before .before .before .before .before .before .before .kind .ensures) (c .before .before .before .before .before .before .before .before .if1 .left) (c .before .before .before .before .before .if2 .left) in
-    let e = ends-at (a .arrival) (a .catalogue .now) (a .lives .now) (a .lto) _ _ (c .before .expiry .result) (toZ-ofZ w8 (a .lto) (s .fits .lto)) (c .before .before .before .before .duration-type .ensures) (c .before .expiry .ensures) in (
+    let is-1 = is-ordinary (a .t .now) (a .catalogue .now) (a .lives .now) (a .last .0) (a .arrival) (a .lto) _ ok (y .before .before .before .before .before .before .before .kind .ensures) (y .before .before .before .before .before .before .if1 .left) (y .before .before .before .if2 .left) in
+    let told = clock-told (a .t .now) (a .catalogue .now) (a .lives .now) (a .last .0) (a .arrival) (a .lto) _ _ _ ok (toZ-ofZ w8 (a .lto) (s .fits .lto)) (y .before .before .duration-type .ensures) (x .expiry .ensures) in
+    let e = ap minuteOf (sym (c .before .before .expiry2 .given .1) ∙ told) in (
       lent-whole (a .t .now) (a .catalogue .now) (a .lives .now) (ok .lent),
-      ap₂ (canMake (a .arrival .report) (a .arrival .service)) (c .before .before .before .before .before .before .class .ensures) e ∙ can-make (a .t .now) (a .catalogue .now) (a .lives .now) (a .last .0) (a .arrival) (a .lto) ok is-1,
+      ap₂ (canMake (a .arrival .report) (a .arrival .service)) (y .before .before .before .before .class .ensures) e ∙ can-make (a .t .now) (a .catalogue .now) (a .lives .now) (a .last .0) (a .arrival) (a .lto) ok is-1,
     )
 
 returns-3 : tie.Need-returns-3
 returns-3 c =
-    let s = c .before .before .before .before .before .before .before .before .before .before .before .before .before .before .before .before .before .before .before .before .before in
+    let x = c .before .before .before .before .before .before .before in
+    let y = x .before in
+    let s = y .before .before .before .before .before .before .before .before .before .before .before .before .before .before .before .before in
     let a = s .args in
     let t = a .t .now in
     let v = a .arrival in
     let m = v .minute .0 in
     let ok = checked t (a .catalogue .now) (a .lives .now) (a .last .0) v (a .lto) (s .pre) in
-    let is-1 = is-ordinary t (a .catalogue .now) (a .lives .now) (a .last .0) v (a .lto) _ ok (c .before .before .before .before .before .before .before .before .before .before .before .before .kind .ensures) (c .before .before .before .before .before .before .before .before .before .before .before .if1 .left) (c .before .before .before .before .before .before .before .before .if2 .left) in
-    let e = ends-at v (a .catalogue .now) (a .lives .now) (a .lto) _ _ (c .before .before .before .before .expiry .result) (toZ-ofZ w8 (a .lto) (s .fits .lto)) (c .before .before .before .before .before .before .before .duration-type .ensures) (c .before .before .before .before .expiry .ensures) in
+    let is-1 = is-ordinary t (a .catalogue .now) (a .lives .now) (a .last .0) v (a .lto) _ ok (y .before .before .before .before .before .before .before .kind .ensures) (y .before .before .before .before .before .before .if1 .left) (y .before .before .before .if2 .left) in
+    let told = clock-told t (a .catalogue .now) (a .lives .now) (a .last .0) v (a .lto) _ _ _ ok (toZ-ofZ w8 (a .lto) (s .fits .lto)) (y .before .before .duration-type .ensures) (x .expiry .ensures) in
+    let e = ap minuteOf (sym (c .before .before .before .before .before .expiry2 .given .1) ∙ told) in
     let way = ordinary-way t (a .catalogue .now) (a .lives .now) (a .last .0) v (a .lto) (s .pre) (lent-whole t (a .catalogue .now) (a .lives .now) (ok .lent)) is-1 in
     let f = c .before .before .take-ordinary .ensures in
-    let class = c .before .before .before .before .before .before .before .before .before .class .ensures in (
+    let class = y .before .before .before .before .class .ensures in (
       f .0
           ∙ ap (λ (n : ℕ). cond (noRoom m (matching (keyWith v n)) t) (step (a .last .0) (Refused 14)) (step m (Stored (expiredIn m t) (matchedIn m (matching (keyWith v n)) t) (placeIn m (matching (keyWith v n)) t)))) class
           ∙ way .0,
       f .1 ∙ ap₂ (λ (n y : ℕ). cond (noRoom m (matching (keyWith v n)) t) t (afterStoring m (matching (keyWith v n)) (recordOf (v .report) (v .service) n y) t)) class e ∙ way .1,
     )
+
+returns-4 : tie.Need-returns-4
+returns-4 c =
+    let x = c .before .before .before .before in
+    let y = x .before in
+    let s = y .before .before .before .before .before .before .before .before .before .before .before .before .before .before .before .before in
+    let a = s .args in
+    let ok = checked (a .t .now) (a .catalogue .now) (a .lives .now) (a .last .0) (a .arrival) (a .lto) (s .pre) in
+    let told = clock-told (a .t .now) (a .catalogue .now) (a .lives .now) (a .last .0) (a .arrival) (a .lto) _ _ _ ok (toZ-ofZ w8 (a .lto) (s .fits .lto)) (y .before .before .duration-type .ensures) (x .expiry .ensures) in
+    absurd (never-refused _ _ (sym (c .before .before .expiry3 .given .1) ∙ told))
 
 pub take-checked-spec : {M : Type 1} → statement M
 take-checked-spec =
@@ -144,7 +162,10 @@ take-checked-spec =
     (search needs)
     life
     (search needs)
-    ends
+    (search needs)
     take-ordinary-requires
     (search needs)
-    returns-3)
+    (search needs)
+    (search needs)
+    returns-3
+    returns-4)

@@ -10,7 +10,7 @@ use Rattle.bits.proofs.Choice.{chosen, passed-over}
 use Rattle.record.specs.declared.Freed as freed
 use Rattle.record.specs.Layout.{recordSize}
 use Rattle.record.specs.Matching.{matching}
-use Rattle.record.specs.Made.{recordOf}
+use Rattle.record_report.specs.Made.{recordOf}
 use Rattle.table.specs.declared.Answer.the-variants.{Stored}
 use Rattle.table.specs.Records.{lowestFree, stored}
 use Rattle.table.specs.Steps.{step, afterMatching, placeIn, afterStoring}

@@ -10,6 +10,6 @@ of-spec =
     tie.close
     (tie.spec
     (search needs) (search needs) (search needs) (search needs)
-    (λ c. let s = c .before .before .before .before .before .args .reading in cc (ap (readingWith (c .before .before .of .result) (s .service) (s .expiry)) (c .enum-told .given .1)))
-    (λ c. let s = c .before .before .before .before .before .args .reading in cc (ap (readingWith (c .before .before .of .result) (s .service) (s .expiry)) (c .enum-told2 .given .1)))
-    (λ c. let s = c .before .before .before .before .before .before .args .reading in cc (ap (readingWith (c .before .before .before .of .result) (s .service) (s .expiry)) (c .before .answer .given .1))))
+    (λ c. let s = c .before .before .before .before .before .before .args .reading in cc (ap (readingWith (c .before .before .of .result) (s .service) (s .expiry .0)) (c .enum-told .given .1)))
+    (λ c. let s = c .before .before .before .before .before .before .args .reading in cc (ap (readingWith (c .before .before .of .result) (s .service) (s .expiry .0)) (c .enum-told2 .given .1)))
+    (λ c. let s = c .before .before .before .before .before .before .before .args .reading in cc (ap (readingWith (c .before .before .before .of .result) (s .service) (s .expiry .0)) (c .before .answer .given .1))))

@@ -1,0 +1,82 @@
+-- What a table, a catalogue and lives that fit say.
+use Prim.Native.Nat.{ℕ, zero, suc, _+_, _*_, _%_, _≤_, _<_}
+use native.Mathlib.Omega.{arith}
+use mathlib.Core.Path.{_≡_, refl, sym, ap, _∙_}
+use mathlib.Core.Bool.{Bool, true, _&&_}
+use mathlib.Core.List.{List, [], _∷_}
+use lib.ListN.{length, take, drop, getD}
+use lib.Seq.{drop-drop}
+use lib.Dec.{leb, eqb}
+use borrow.Author.Tests.{eqb-true, leb-true}
+use Rattle.bits.proofs.Choice.{and-left, and-right}
+use Rattle.clock.specs.Time.{longestLife}
+use Rattle.record.specs.Layout.{recordSize, freeRecord}
+use Rattle.record.specs.WellFormed.{wellFormed}
+use Rattle.lent.specs.Records.{chunks, records, allOf}
+use Rattle.lent.specs.Table.{sized, tableFits}
+use Rattle.lent.specs.Catalogue.{entryFits, catalogueFits}
+use Rattle.lent.specs.Lives.{livesFit}
+use Rattle.lent.specs.Lent.{lentFit}
+use Rattle.lent.proofs.Passes.{nth}
+
+pub table-whole : (t : List ℕ) → tableFits t ≡ true → length t % recordSize ≡ 0
+unfolding tableFits sized
+table-whole t h =
+    let last = eqb (length t % recordSize) 0 in
+    let s = and-left (leb recordSize (length t) && (leb (length t) (1024 * recordSize) && last)) (allOf wellFormed (records t)) h in
+    eqb-true (length t % recordSize) 0 (and-right (leb (length t) (1024 * recordSize)) last (and-right (leb recordSize (length t)) (leb (length t) (1024 * recordSize) && last) s))
+
+pub table-records : (t : List ℕ) → tableFits t ≡ true → allOf wellFormed (records t) ≡ true
+unfolding tableFits
+table-records t h = and-right (sized t) (allOf wellFormed (records t)) h
+
+nth-next : (t : List ℕ) (i : ℕ) → nth (drop recordSize t) i ≡ nth t (suc i)
+nth-next t i = let e : recordSize + i * recordSize ≡ suc i * recordSize = omega arith in ap (take recordSize) (drop-drop (i * recordSize) recordSize t ∙ ap (λ (k : ℕ). drop k t) e)
+
+pub chunk-at : (n i : ℕ) (t : List ℕ) → i < n → getD (chunks n t) i freeRecord ≡ nth t i
+unfolding chunks
+chunk-at zero i t h = absurd (omega arith)
+chunk-at (suc n) zero t h = refl
+chunk-at (suc n) (suc i) t h = chunk-at n i (drop recordSize t) (omega arith) ∙ nth-next t i
+
+pub all-at : (p : List ℕ → Bool) (n i : ℕ) (t : List ℕ) → allOf p (chunks n t) ≡ true → i < n → p (nth t i) ≡ true
+unfolding allOf chunks
+all-at p zero i t a h = absurd (omega arith)
+all-at p (suc n) zero t a h = and-left (p (take recordSize t)) (allOf p (chunks n (drop recordSize t))) a
+all-at p (suc n) (suc i) t a h = ap p (sym (nth-next t i)) ∙ all-at p n i (drop recordSize t) (and-right (p (take recordSize t)) (allOf p (chunks n (drop recordSize t))) a) (omega arith)
+
+entry-at : (p : ℕ → Bool) (l : List ℕ) (i : ℕ) → allOf p l ≡ true → i < length l → p (getD l i 0) ≡ true
+unfolding allOf
+entry-at p [] i a h = absurd (omega arith)
+entry-at p (x ∷ l) zero a h = and-left (p x) (allOf p l) a
+entry-at p (x ∷ l) (suc i) a h = entry-at p l i (and-right (p x) (allOf p l) a) (omega arith)
+
+module _ (t c l : List ℕ) (h : lentFit t c l ≡ true) where
+  pub lent-table : tableFits t ≡ true
+  unfolding lentFit
+  lent-table = and-left (tableFits t) (catalogueFits c && livesFit l) h
+
+  lent-rest : catalogueFits c && livesFit l ≡ true
+  unfolding lentFit
+  lent-rest = and-right (tableFits t) (catalogueFits c && livesFit l) h
+
+  pub lent-whole : length t % recordSize ≡ 0
+  lent-whole = table-whole t lent-table
+
+  pub lent-events : length c ≡ 2048
+  unfolding catalogueFits
+  lent-events = eqb-true (length c) 2048 (and-left (eqb (length c) 2048) (allOf entryFits c) (and-left (catalogueFits c) (livesFit l) lent-rest))
+
+  pub lent-entry : (i : ℕ) → i < length c → entryFits (getD c i 0) ≡ true
+  unfolding catalogueFits
+  lent-entry i k = entry-at entryFits c i (and-right (eqb (length c) 2048) (allOf entryFits c) (and-left (catalogueFits c) (livesFit l) lent-rest)) k
+
+  lent-lives-fit : eqb (length l) 16 && allOf (λ x. leb x longestLife) l ≡ true
+  unfolding livesFit
+  lent-lives-fit = and-right (catalogueFits c) (livesFit l) lent-rest
+
+  pub lent-lives : length l ≡ 16
+  lent-lives = eqb-true (length l) 16 (and-left (eqb (length l) 16) (allOf (λ x. leb x longestLife) l) lent-lives-fit)
+
+  pub life-short : (i : ℕ) → i < length l → getD l i 0 ≤ longestLife
+  life-short i k = leb-true (getD l i 0) longestLife (entry-at (λ x. leb x longestLife) l i (and-right (eqb (length l) 16) (allOf (λ x. leb x longestLife) l) lent-lives-fit) k)

@@ -1,0 +1,29 @@
+-- The catalogue (document 01, "The message table").
+use Prim.Native.Nat.{ℕ, _/_, _%_}
+use mathlib.Core.Bool.{Bool, not, _&&_, _||_}
+use mathlib.Core.List.{List}
+use lib.ListN.{length}
+use lib.Dec.{eqb, ltb}
+use Rattle.lent.specs.Records.{allOf}
+
+-- the update class of an entry
+abbrev pub classOf : ℕ → ℕ
+classOf entry = entry % 64
+
+-- its kind: 0 unknown, 1 ordinary, 2 cancelling, 3 null
+abbrev pub kindOf : ℕ → ℕ
+kindOf entry = entry / 64 % 4
+
+-- its duration type
+abbrev pub typeOf : ℕ → ℕ
+typeOf entry = entry / 256 % 2
+
+-- no bit above the duration type, and class 0 exactly if the kind is 0 or 3
+unfoldable pub entryFits : ℕ → Bool
+entryFits x =
+    ltb x 512
+    && (eqb (classOf x) 0 && (eqb (kindOf x) 0 || eqb (kindOf x) 3) || not (eqb (classOf x) 0) && (eqb (kindOf x) 1 || eqb (kindOf x) 2))
+
+-- an entry for each of the 2,048 events
+unfoldable pub catalogueFits : List ℕ → Bool
+catalogueFits c = eqb (length c) 2048 && allOf entryFits c

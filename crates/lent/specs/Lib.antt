@@ -1,0 +1,5 @@
+pub mod Records
+pub mod Table
+pub mod Catalogue
+pub mod Lives
+pub mod Lent

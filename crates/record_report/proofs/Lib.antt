@@ -1,0 +1,9 @@
+pub mod Filling
+pub mod Bytes
+pub mod Kept
+pub mod Makings
+pub mod Readings
+pub mod MadeFields
+pub mod WayBack
+pub mod Reports
+pub mod MadeFits

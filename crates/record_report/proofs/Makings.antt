@@ -1,0 +1,36 @@
+-- The ways out of making a record.
+use Prim.Native.Nat.{ℕ}
+use mathlib.Core.Path.{_≡_, sym, ap, ap₂}
+use mathlib.Core.Bool.{Bool, true, cond, _&&_}
+use mathlib.Core.List.{List}
+use lib.ListN.{length}
+use borrow.Author.Tests.{eq-eqb, ne-eqb}
+use Rattle.bits.proofs.Choice.{chosen, passed-over}
+use Rattle.report.specs.declared.Report.{Report}
+use Rattle.record.specs.declared.Service.{Service}
+use Rattle.record_report.specs.declared.Making.the-variants.{Made, Refused}
+use Rattle.record.specs.Layout.{recordSize}
+use Rattle.record_report.specs.Made.{marksFit, recordOf, canMake, makingIn, bytesMade}
+use Rattle.report.specs.Fits.{reportFits}
+
+module _ (out : List ℕ) (r : Report) (s : Service) (class expiry : ℕ) where
+  pub not-a-record : (length out ≡ recordSize → ⊥) → (Refused 10 ≡ makingIn out r s class expiry) × (out ≡ bytesMade out r s class expiry)
+  unfolding makingIn bytesMade
+  not-a-record e =
+      let off = ne-eqb (length out) recordSize e in
+      (sym (passed-over _ _ _ off), sym (passed-over _ _ _ (ap (λ (b : Bool). b && canMake r s class expiry) off)))
+
+  -- by the tests of what it is made of
+  pub made-by : (x y : Bool) → length out ≡ recordSize → marksFit s class expiry ≡ x → reportFits r ≡ y
+      → (cond (x && y) Made (Refused 9) ≡ makingIn out r s class expiry) × (cond (x && y) (recordOf r s class expiry) out ≡ bytesMade out r s class expiry)
+  unfolding makingIn bytesMade canMake
+  made-by x y e fx fy =
+      let on = eq-eqb (length out) recordSize e in
+      let can : canMake r s class expiry ≡ x && y = ap₂ (λ (a b : Bool). a && b) fx fy in (
+        sym (ap₂ (λ (a b : Bool). cond a (cond b Made (Refused 9)) (Refused 10)) on can),
+        sym (ap₂ (λ (a b : Bool). cond (a && b) (recordOf r s class expiry) out) on can),
+      )
+
+  pub bytes-made : length out ≡ recordSize → canMake r s class expiry ≡ true → bytesMade out r s class expiry ≡ recordOf r s class expiry
+  unfolding bytesMade
+  bytes-made e can = chosen _ _ _ (ap₂ (λ (a b : Bool). a && b) (eq-eqb (length out) recordSize e) can)

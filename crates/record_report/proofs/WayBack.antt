@@ -1,0 +1,98 @@
+-- What is stored from a report reads back as that report.
+use Prim.Native.Nat.{ℕ, _+_, _-_, _*_, _≤_}
+use mathlib.Core.Path.{_≡_, refl, sym, ap, ap₂, _∙_}
+use mathlib.Core.Bool.{Bool, true, false}
+use mathlib.Core.List.{List, _++_}
+use native.Mathlib.Omega.{arith}
+use lib.ListN.{length, take, length-append, length-replicate}
+use lib.Seq.{take-append-add}
+use Rattle.bits.specs.Fields.{flat}
+use Rattle.bits.specs.Outcome.{Outcome, gives, mapped}
+use Rattle.bits.proofs.Fields.{flat-words}
+use Rattle.word.specs.declared.Head.{Head}
+use Rattle.content.specs.declared.item.Item.{Item}
+use Rattle.content.specs.Packing.{zeros, groupBits, groups, room, longest, packing, padded}
+use Rattle.content.specs.Stored.{limit, listed}
+use Rattle.content.proofs.Zeros.{take-zeros}
+use Rattle.content.proofs.WrittenIsRead.{packable-short, writable-packable, written-is-read}
+use Rattle.report.specs.declared.Report.{Report}
+use Rattle.report.specs.declared.Form.{Form}
+use Rattle.report.specs.declared.Form.the-variants.{Single, Multi}
+use Rattle.report.specs.Report.{singleReport, multiReport}
+use Rattle.report.specs.Read.{readBits}
+use Rattle.report.specs.Fits.{fitsBy, reportFits}
+use Rattle.report.specs.Record.{bytesOf, groupsFor, groupsOf}
+use Rattle.report.proofs.Multi.{fit-writable}
+use Rattle.report.proofs.Kept.{report-items}
+use Rattle.report.proofs.OwnParts.{multi-is-report, single-is-report}
+use Rattle.record.specs.declared.Service.{Service}
+use Rattle.record_report.specs.declared.Answer.the-variants.{Read}
+use Rattle.record.specs.Layout.{byteAt, groupsIn, serviceIn, expiryIn}
+use Rattle.record_report.specs.Made.{recordOf}
+use Rattle.record_report.specs.Reads.{messageIn, answered, readingIn}
+use Rattle.record_report.proofs.MadeFields.{used-back, groups-back, head-back, expiry-back, content-back, service-back}
+use Rattle.record_report.proofs.Readings.{single-message, multi-message, used-reading}
+
+-- the bytes of items are their bits and zeros
+pub bits-back : (its : List Item) → length (packing its) ≤ longest → flat 8 (bytesOf its) ≡ packing its ++ zeros (longest - length (packing its))
+unfolding bytesOf
+bits-back its short =
+    let n = length (packing its) in
+    let size : n + (longest - n) ≡ 14 * 8 = omega arith in
+    flat-words 8 14 (packing its ++ zeros (longest - n)) (length-append (packing its) (zeros (longest - n)) ∙ ap (λ (m : ℕ). n + m) (length-replicate (longest - n) false) ∙ size)
+
+-- and those of its groups are the content of the fewest groups
+padded-back : (its : List Item) → length (packing its) ≤ longest → take (groupBits * (groups (length (packing its)) - 1)) (flat 8 (bytesOf its)) ≡ padded its
+unfolding padded
+padded-back its short =
+    let n = length (packing its) in
+    let whole : room n ≡ n + (room n - n) = omega arith in
+    let few : room n - n ≤ longest - n = omega arith in
+    ap (take (room n)) (bits-back its short)
+    ∙ ap (λ (m : ℕ). take m (packing its ++ zeros (longest - n))) whole
+    ∙ take-append-add (packing its) (zeros (longest - n)) (room n - n)
+    ∙ ap (λ (z : List Bool). packing its ++ z) (take-zeros (room n - n) (longest - n) few)
+
+-- the groups of a report are the fewest: one for a single-group report, else no more than any number of groups whose content holds the items
+module _ (r : Report) where
+  pub single-groups : r .form ≡ Single → groupsOf r ≡ 1
+  unfolding groupsOf groupsFor
+  single-groups e = ap (λ (f : Form). groupsFor f (length (packing (listed (r .items))))) e
+
+  multi-groups : r .form ≡ Multi → groupsOf r ≡ groups (length (packing (listed (r .items))))
+  unfolding groupsOf groupsFor
+  multi-groups e = ap (λ (f : Form). groupsFor f (length (packing (listed (r .items))))) e
+
+  pub fewest-groups : r .form ≡ Multi → (k : ℕ) → 2 ≤ k → length (packing (listed (r .items))) ≤ groupBits * (k - 1) → groupsOf r ≤ k
+  fewest-groups e k many hold = let n = length (packing (listed (r .items))) in omega (arith, multi-groups e)
+
+module _ (r : Report) (s : Service) (class expiry : ℕ) (sized : length (r .items .places) ≡ limit) (fit : reportFits r ≡ true) where
+  pub reads-back : messageIn (recordOf r s class expiry) ≡ gives r
+  unfolding reportFits fitsBy recordOf
+  reads-back = by-form (r .form) refl fit
+    where
+      by-form : (f : Form) → r .form ≡ f → fitsBy f r ≡ true → messageIn (recordOf r s class expiry) ≡ gives r
+      by-form Single e h =
+          single-message (recordOf r s class expiry) (groups-back r s class expiry ∙ single-groups r e)
+          ∙ ap (λ (x : Head). gives (singleReport (r .duration) (r .diversion) x)) (head-back r s class expiry)
+          ∙ ap gives (single-is-report 0 r sized (unfold fitsBy in h) e)
+      by-form Multi e h =
+          let its = listed (r .items) in
+          let n = length (packing its) in
+          let can = fit-writable (r .items) (report-items r fit) in
+          let short = packable-short its (writable-packable its can) in
+          let many : groupsIn (recordOf r s class expiry) ≡ 1 → ⊥ = λ z. let g = multi-groups r e in let one : groups n ≡ 1 = sym g ∙ z in omega arith in
+          multi-message (recordOf r s class expiry) many
+          ∙ ap₂ (λ (x : Head) (l : List Bool). readBits x l) (head-back r s class expiry)
+          (ap₂ (λ (m : ℕ) (l : List ℕ). take (groupBits * (m - 1)) (flat 8 l)) (multi-groups r e) (content-back r s class expiry) ∙ padded-back its short)
+          ∙ unfold readBits in ap (mapped (multiReport (r .head))) (written-is-read its can)
+          ∙ ap gives (multi-is-report 0 r sized (unfold fitsBy in h) e)
+
+  -- the whole reading: the report with its service and its expiry
+  pub reading-back : readingIn (recordOf r s class expiry) ≡ record { answer = Read; report = r; service = s; expiry = record { 0 = expiry } }
+  unfolding answered
+  reading-back =
+      let used : byteAt (recordOf r s class expiry) 0 ≡ 0 → ⊥ = λ z. omega (arith, used-back r s class expiry) in
+      used-reading (recordOf r s class expiry) used
+      ∙ ap (λ (m : Outcome Report ℕ). answered m (serviceIn (recordOf r s class expiry)) (expiryIn (recordOf r s class expiry))) reads-back
+      ∙ ap₂ (λ (x : Service) (n : ℕ). answered (gives r) x n) (service-back r s class expiry) (expiry-back r s class expiry)

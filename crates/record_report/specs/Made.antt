@@ -1,0 +1,55 @@
+-- The record of a report (document 01, "The message table").
+use Prim.Native.Nat.{ℕ, _/_, _%_}
+use mathlib.Core.Bool.{Bool, cond, _&&_}
+use mathlib.Core.List.{List, [], _∷_, _++_}
+use lib.Dec.{leb}
+use Rattle.word.specs.declared.Head.{Head}
+use Rattle.content.specs.Stored.{listed}
+use Rattle.report.specs.declared.Report.{Report}
+use Rattle.report.specs.Fits.{reportFits}
+use Rattle.report.specs.Record.{bytesOf, groupsOf}
+use Rattle.record.specs.declared.Service.{Service}
+use Rattle.record_report.specs.declared.Making.{Making}
+use Rattle.record_report.specs.declared.Making.the-variants.{Made, Refused}
+use Rattle.record.specs.Services.{serviceFits}
+use Rattle.record.specs.Layout.{isRecord}
+
+-- bytes 0 to 3: the mark of a used record, groups, SID, LTN
+abbrev pub markBytes : ℕ → Service → List ℕ
+markBytes groups s = 1 ∷ groups ∷ s .sid ∷ s .ltn ∷ []
+
+-- bytes 4 to 11: location, event, direction, extent, diversion, duration
+abbrev pub headBytes : Head → ℕ → ℕ → List ℕ
+headBytes h diversion duration = h .location % 256 ∷ h .location / 256 ∷ h .event % 256 ∷ h .event / 256 ∷ h .direction ∷ h .extent ∷ diversion ∷ duration ∷ []
+
+-- bytes 12 to 15: when it ends
+abbrev pub expiryBytes : ℕ → List ℕ
+expiryBytes n = n % 256 ∷ n / 0x100 % 256 ∷ n / 0x1_0000 % 256 ∷ n / 0x100_0000 ∷ []
+
+-- bytes 0 to 15
+abbrev pub frontBytes : ℕ → Report → Service → ℕ → List ℕ
+frontBytes groups r s expiry = (markBytes groups s ++ headBytes (r .head) (r .diversion) (r .duration)) ++ expiryBytes expiry
+
+-- bytes 30 and 31: class and country
+abbrev pub tailBytes : ℕ → Service → List ℕ
+tailBytes class s = class ∷ s .country ∷ []
+
+-- the record: the fewest groups for the report, its content zero filled, and its class
+unfoldable pub recordOf : Report → Service → (class expiry : ℕ) → List ℕ
+recordOf r s class expiry = frontBytes (groupsOf r) r s expiry ++ (bytesOf (listed (r .items)) ++ tailBytes class s)
+
+-- a service, an update class and an expiry that a record may have
+abbrev pub marksFit : Service → (class expiry : ℕ) → Bool
+marksFit s class expiry = serviceFits s && ((leb 1 class && leb class 63) && leb 1 expiry)
+
+-- with a report that a writer takes, a record is made of them
+unfoldable pub canMake : Report → Service → (class expiry : ℕ) → Bool
+canMake r s class expiry = marksFit s class expiry && reportFits r
+
+-- in bytes that are one record's; other bytes are refused (10), then what no record is made of (9)
+unfoldable pub makingIn : List ℕ → Report → Service → (class expiry : ℕ) → Making
+makingIn out r s class expiry = cond (isRecord out) (cond (canMake r s class expiry) Made (Refused 9)) (Refused 10)
+
+-- and a refusal leaves the bytes
+unfoldable pub bytesMade : List ℕ → Report → Service → (class expiry : ℕ) → List ℕ
+bytesMade out r s class expiry = cond (isRecord out && canMake r s class expiry) (recordOf r s class expiry) out

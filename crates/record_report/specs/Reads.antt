@@ -1,0 +1,39 @@
+-- What a record says (document 01, "The message table").
+use Prim.Native.Nat.{ℕ}
+use mathlib.Core.Bool.{cond, _&&_}
+use mathlib.Core.List.{List}
+use lib.ListN.{take}
+use lib.Dec.{eqb}
+use Rattle.bits.specs.Fields.{flat}
+use Rattle.bits.specs.Outcome.{Outcome, gives, refused}
+use Rattle.report.specs.declared.Report.{Report}
+use Rattle.report.specs.Report.{singleReport, blank}
+use Rattle.report.specs.Read.{readBits}
+use Rattle.record.specs.declared.Service.{Service}
+use Rattle.record_report.specs.declared.Reading.{Reading}
+use Rattle.record_report.specs.declared.Answer.{Answer}
+use Rattle.record_report.specs.declared.Answer.the-variants.{Free, Read, Refused}
+use Rattle.record.specs.Layout.{isRecord, isFree, groupsIn, headIn, durationIn, diversionIn, contentIn, serviceIn, expiryIn}
+use Rattle.record.specs.WellFormed.{contentBits, wellFormed}
+
+-- the message of a used record: a single-group report, or the head with the items of the content
+unfoldable pub messageIn : List ℕ → Outcome Report ℕ
+messageIn r =
+    cond (eqb (groupsIn r) 1) (gives (singleReport (durationIn r) (diversionIn r) (headIn r)))
+    (readBits (headIn r) (take (contentBits r) (flat 8 (contentIn r))))
+
+-- an answer with no report
+unfoldable pub nothing : Answer → Reading
+nothing a = record { answer = a; report = blank; service = record { country = 0; ltn = 0; sid = 0 }; expiry = record { 0 = 0 } }
+
+-- how the code answers a message of a service
+unfoldable pub answered : Outcome Report ℕ → Service → ℕ → Reading
+answered (gives x) s expiry = record { answer = Read; report = x; service = s; expiry = record { 0 = expiry } }
+answered (refused n) s expiry = nothing (Refused n)
+
+unfoldable pub readingIn : List ℕ → Reading
+readingIn r = cond (isFree r) (nothing Free) (answered (messageIn r) (serviceIn r) (expiryIn r))
+
+-- of any bytes: those that are not one well-formed record are refused (10)
+unfoldable pub readingOf : List ℕ → Reading
+readingOf r = cond (isRecord r && wellFormed r) (readingIn r) (nothing (Refused 10))

@@ -1,0 +1,99 @@
+// A record read back.
+ghost use mathlib.Core.Path.{_≡_};
+ghost use Prim.Native.Nat.{_≤_};
+ghost use lib.ListN.{length, take};
+ghost use Rattle.bits.specs.Fields.{flat};
+ghost use Rattle.content.specs.Halves.{bitsOf};
+ghost use Rattle.content.specs.Packing.{longest};
+ghost use Rattle.report.specs.Read.{outcomeOf};
+ghost use Rattle.record.specs.Layout.{recordSize, groupsIn, contentIn};
+ghost use Rattle.record_report.specs.Reads.{messageIn, readingOf, nothing};
+use crate::Answer;
+use crate::Reading;
+use bits::bytes::load;
+use clock::Utc;
+use content::content::Content;
+use record::Record;
+use record::Service;
+use record::fields::expiry;
+use record::fields::head;
+use record::fields::service;
+use record::test::fits;
+use report::MessageReading;
+use report::Report;
+
+// Where the bytes of the content's low half begin, and what brings them to its top: it has room for two bytes more.
+const LOW: usize = Record::CONTENT + 8;
+
+const TO_THE_TOP: u64 = 0x1_0000;
+
+// The report of a record with its service and expiry, or that it is free. Bytes that are not one well-formed record are refused (10), then
+// content that does not read as items (7 or 8).
+pub fn read(r: &[u8]) -> Reading
+    ensures { λ x. ⌜ x ≡ readingOf (now (r .entry)) ⌝ }
+{
+    if !fits(r) {
+        return nothing(Answer::Refused(10));
+    }
+    if r[Record::MARK] == 0 {
+        return nothing(Answer::Free);
+    }
+    let reading = message(r);
+    let answer = reading.answer;
+    let report = reading.report;
+    let end = expiry(r);
+    match answer {
+        report::Answer::Read => Reading {
+            answer: Answer::Read,
+            report,
+            service: service(r),
+            expiry: end,
+        },
+        report::Answer::Refused(n) => nothing(Answer::Refused(n)),
+    }
+}
+
+// An answer with no report.
+pub fn nothing(answer: Answer) -> Reading
+    ensures { λ x. ⌜ x ≡ nothing answer ⌝ }
+{
+    Reading {
+        answer,
+        report: Report::new(),
+        service: Service {
+            country: 0,
+            ltn: 0,
+            sid: 0,
+        },
+        expiry: Utc(0),
+    }
+}
+
+fn message(r: &[u8]) -> MessageReading
+    requires { ⌜ (length (now r) ≡ recordSize) × (1 ≤ groupsIn (now r)) × (groupsIn (now r) ≤ 5) ⌝ }
+    ensures { λ x. ⌜ x ≡ outcomeOf (messageIn (now (r .entry))) ⌝ }
+{
+    let groups = r[Record::GROUPS] as usize;
+    let head = head(r);
+    if groups == 1 {
+        MessageReading {
+            answer: report::Answer::Read,
+            report: Report::single(r[Record::DURATION], r[Record::DIVERSION], head),
+        }
+    } else {
+        Report::multi(head, content(r), Content::GROUP * (groups - 1))
+    }
+}
+
+// The content bits: eight bytes in the high half, and six at the top of the low half.
+fn content(r: &[u8]) -> Content
+    requires { ⌜ length (now r) ≡ recordSize ⌝ }
+    ensures { λ c. ⌜ take longest (bitsOf c) ≡ flat 8 (contentIn (now (r .entry))) ⌝ }
+{
+    let high = load(&r[Record::CONTENT..LOW]);
+    let low = load(&r[LOW..Record::CLASS]);
+    Content {
+        high,
+        low: low * TO_THE_TOP,
+    }
+}
