@@ -694,10 +694,28 @@ static void table(void) {
     SAME(r.expiry, 0);
     SAME_REPORT(r.report, none);
 
-    SAME(alertc_expiry(0, 0, 0), 1440);
-    SAME(alertc_expiry(0, 2, 0), 1380);
-    SAME(alertc_expiry(0, -1, 0), 30);
-    SAME(alertc_expiry(ALERTC_LARGEST_MINUTE, -31, ALERTC_LONGEST_LIFE), UINT64_C(4000010080));
+    /* One record's bytes, without the table. */
+    const uint8_t *second = bytes + ALERTC_RECORD_BYTES;
+    r = alertc_record_read(second, ALERTC_RECORD_BYTES);
+    SAME(r.refusal, ALERTC_ACCEPTED);
+    SAME(r.used, 1);
+    SAME_REPORT(r.report, report_401());
+    SAME(r.service.sid, 37);
+    SAME(r.expiry, 1380);
+    SAME(alertc_record_read(bytes, ALERTC_RECORD_BYTES).used, 0);
+    SAME(alertc_record_read(second, ALERTC_RECORD_BYTES - 1).refusal, ALERTC_REFUSED_MALFORMED);
+    SAME(alertc_record_read(second - 1, ALERTC_RECORD_BYTES).refusal, ALERTC_REFUSED_MALFORMED);
+
+    SAME(alertc_expiry(0, 0, 0).minute, 1440);
+    SAME(alertc_expiry(0, 2, 0).minute, 1380);
+    SAME(alertc_expiry(0, -1, 0).minute, 30);
+    SAME(alertc_expiry(0, -1, 0).refusal, ALERTC_ACCEPTED);
+    SAME(alertc_expiry(ALERTC_LARGEST_MINUTE, -31, ALERTC_LONGEST_LIFE).minute, 4000010080U);
+    struct alertc_expiry_answer e = alertc_expiry(ALERTC_LARGEST_MINUTE + 1, 32, 10081);
+    SAME(e.refusal, ALERTC_REFUSED_MALFORMED);
+    SAME(e.minute, 0);
+    SAME(alertc_expiry(ALERTC_LARGEST_MINUTE + 1, 32, 0).refusal, ALERTC_REFUSED_UNFIT);
+    SAME(alertc_expiry(ALERTC_LARGEST_MINUTE + 1, 31, 0).refusal, ALERTC_REFUSED_MINUTE);
 }
 
 /* Every refusal has a text of its own. */

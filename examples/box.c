@@ -234,7 +234,8 @@ static int show(struct box *box, uint32_t minute) {
     printf("minute %lu, expired %zu\n", (unsigned long)minute, freed.expired);
     puts("place location event dir extent div dur items until country ltn sid");
     for (size_t i = 0; i < RECORDS; i++) {
-        struct alertc_table_reading record = alertc_table_read(box->table, sizeof box->table, i);
+        struct alertc_table_reading record =
+            alertc_record_read(box->table + i * ALERTC_RECORD_BYTES, ALERTC_RECORD_BYTES);
         if (record.used) {
             const struct alertc_report *r = &record.report;
             printf("%zu %u %u %u %u %u %u %zu %lu %u %u %u\n", i, r->location, r->event,

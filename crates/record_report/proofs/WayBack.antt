@@ -75,7 +75,7 @@ module _ (r : Report) (s : Service) (class expiry : ℕ) (sized : length (r .ite
       by-form Single e h =
           single-message (recordOf r s class expiry) (groups-back r s class expiry ∙ single-groups r e)
           ∙ ap (λ (x : Head). gives (singleReport (r .duration) (r .diversion) x)) (head-back r s class expiry)
-          ∙ ap gives (single-is-report 0 r sized (unfold fitsBy in h) e)
+          ∙ ap gives (single-is-report r sized (unfold fitsBy in h) e)
       by-form Multi e h =
           let its = listed (r .items) in
           let n = length (packing its) in
@@ -86,7 +86,7 @@ module _ (r : Report) (s : Service) (class expiry : ℕ) (sized : length (r .ite
           ∙ ap₂ (λ (x : Head) (l : List Bool). readBits x l) (head-back r s class expiry)
           (ap₂ (λ (m : ℕ) (l : List ℕ). take (groupBits * (m - 1)) (flat 8 l)) (multi-groups r e) (content-back r s class expiry) ∙ padded-back its short)
           ∙ unfold readBits in ap (mapped (multiReport (r .head))) (written-is-read its can)
-          ∙ ap gives (multi-is-report 0 r sized (unfold fitsBy in h) e)
+          ∙ ap gives (multi-is-report r sized (unfold fitsBy in h) e)
 
   -- the whole reading: the report with its service and its expiry
   pub reading-back : readingIn (recordOf r s class expiry) ≡ record { answer = Read; report = r; service = s; expiry = record { 0 = expiry } }

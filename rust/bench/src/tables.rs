@@ -33,6 +33,7 @@ fn catalogue() -> [u16; EVENTS] {
 type Take = fn(&mut [u8], &mut u32, &Taking) -> TableAnswer;
 type Expire = fn(&mut [u8], &mut u32, u32) -> TableAnswer;
 type Read = fn(&[u8], usize) -> TableReading;
+type ReadAlone = fn(&[u8]) -> TableReading;
 
 /// A table with what stands beside it.
 #[derive(Clone)]
@@ -179,6 +180,24 @@ fn read(records: usize) {
     times.print(&format!("record read at {records} records"), CALLS);
 }
 
+/// Reads the bytes of a multi-group record and of a single-group one in turn.
+fn read_alone() {
+    let mut table = Table::new(2, 60);
+    table.fill();
+    table.take(calls::table_take, multi_at(1, 7), START);
+    let run = |read: ReadAlone| {
+        let read = black_box(read);
+        for i in 0..CALLS {
+            let record = &table.bytes[RECORD * (i % 2)..][..RECORD];
+            let answer = read(black_box(record));
+            assert_eq!(answer.used, 1);
+            black_box(answer);
+        }
+    };
+    let times = measure(|| run(proved::record_read), || run(calls::record_read));
+    times.print("record read alone", CALLS);
+}
+
 /// A plain scan: every eight bytes are read once.
 pub fn scan(bytes: &[u8]) -> u64 {
     let (eights, rest) = bytes.as_chunks::<8>();
@@ -202,6 +221,7 @@ pub fn bench() {
     take_rough(most);
     expire(most);
     read(most);
+    read_alone();
     for records in sizes {
         let mut table = Table::new(records, 60);
         table.fill();

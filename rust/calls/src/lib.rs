@@ -4,9 +4,9 @@
 #![deny(warnings)]
 
 use proved::{
-    AssemblerAnswer, DrmReading, FigReading, RdsReading, RdsReceived, SystemFields, SystemReading,
-    SystemWritten, TableAnswer, TableReading, Taking, WordComposed, WordFields, WordParsed,
-    Written,
+    AssemblerAnswer, DrmReading, ExpiryAnswer, FigReading, RdsReading, RdsReceived, SystemFields,
+    SystemReading, SystemWritten, TableAnswer, TableReading, Taking, WordComposed, WordFields,
+    WordParsed, Written,
 };
 use second::assembler::{Answer, Assembler, Open};
 use second::clock::Utc;
@@ -502,7 +502,15 @@ pub fn table_expire(table: &mut [u8], clock: &mut u32, minute: u32) -> TableAnsw
 }
 
 pub fn table_read(table: &[u8], place: usize) -> TableReading {
-    let read = table::read(table, place).map(|entry| {
+    of_reading(table::read(table, place))
+}
+
+pub fn record_read(record: &[u8]) -> TableReading {
+    of_reading(table::read_record(record))
+}
+
+fn of_reading(read: Refused<Option<Entry>>) -> TableReading {
+    let read = read.map(|entry| {
         entry.map_or_else(TableReading::default, |entry| {
             let Entry {
                 report,
@@ -526,6 +534,7 @@ pub fn table_read(table: &[u8], place: usize) -> TableReading {
     TableReading { refusal, ..reading }
 }
 
-pub fn expiry(minute: u32, lto: i8, life: u16) -> u64 {
-    Utc(minute).expiry(lto, life)
+pub fn expiry(minute: u32, lto: i8, life: u16) -> ExpiryAnswer {
+    let (Utc(minute), refusal) = split(Utc(minute).expiry(lto, life));
+    ExpiryAnswer { minute, refusal }
 }

@@ -434,12 +434,12 @@ pub fn unit(unit: &DrmUnit, words: &[u64], ua: Option<u16>, rfa: u8) -> Vec<u8> 
 }
 
 /// The minute at which a life ends: life 0 at the next minute that is a midnight of the service.
-pub fn expiry(minute: u32, lto: i8, life: u16) -> u64 {
+pub fn expiry(minute: u32, lto: i8, life: u16) -> u32 {
     let midnight = |&minute: &i64| (minute + 30 * i64::from(lto)).rem_euclid(1440) == 0;
     let minute = i64::from(minute);
     let end = match life {
         0 => (minute + 1..=minute + 1440).find(midnight),
         _ => Some(minute + i64::from(life)),
     };
-    end.unwrap_or_default() as u64
+    end.unwrap_or_default() as u32
 }

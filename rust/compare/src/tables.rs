@@ -1,6 +1,6 @@
 //! The message table and its clock.
 
-use proved::{Head, Report, Service, TableAnswer, TableReading, Taking};
+use proved::{ExpiryAnswer, Head, Report, Service, TableAnswer, TableReading, Taking};
 
 use crate::fields::Fields;
 use crate::sender::{self, Message, CONTENT_BITS};
@@ -21,6 +21,48 @@ const COUNTRIES: [u8; 2] = [1, 15];
 const NUMBERS: [u8; 2] = [0, 63];
 const LOCATIONS: [u16; 4] = [1, 0x0100, 0xFBFF, 0];
 const CLASSES: [u16; 3] = [1, 2, 63];
+
+/// What an accepted take answers and leaves, by the rules' three steps over the bytes of a record
+/// one after the other. The record that is stored is taken from the table afterwards.
+fn meant_by(before: &[u8], taking: &Taking, after: &[u8]) -> (TableAnswer, Vec<u8>) {
+    let Taking {
+        report,
+        service,
+        minute,
+        ..
+    } = *taking;
+    let entry = taking.catalogue[usize::from(report.head.event)];
+    let (kind, class) = (entry >> 6 & 3, entry as u8 & 63);
+    let mut answer = TableAnswer::default();
+    let mut table = before.to_vec();
+    for record in table.chunks_mut(RECORD).filter(|record| record[0] == 1) {
+        let of = |range: std::ops::Range<usize>| {
+            let bytes = record[range].iter().rev();
+            bytes.fold(0, |number, &byte| number << 8 | u32::from(byte))
+        };
+        let expired = of(12..16) <= minute;
+        let matched = (kind == 1 || kind == 2)
+            && of(4..6) == report.head.location.into()
+            && (record[31], record[3], record[2]) == (service.country, service.ltn, service.sid)
+            && (record[8], record[30]) == (report.head.direction, class);
+        if expired {
+            answer.expired += 1;
+        } else if matched {
+            answer.matched += 1;
+        }
+        if expired || matched {
+            record.fill(0);
+        }
+    }
+    let free = table.chunks(RECORD).position(|record| record[0] == 0);
+    if let (1, Some(place)) = (kind, free) {
+        let stored = place * RECORD..(place + 1) * RECORD;
+        table[stored.clone()].copy_from_slice(&after[stored]);
+        answer.stored = 1;
+        answer.place = place;
+    }
+    (answer, table)
+}
 
 impl Trial {
     pub fn lists(&mut self) -> Lists {
@@ -229,6 +271,11 @@ impl Trial {
         let input = (&entry, &taking);
         self.tally
             .agree_lent(Call::TableTake, &input, &entry, (proved, &a), (second, &b));
+        if proved.refusal == 0 {
+            let (answer, table) = meant_by(&entry.0, &taking, &a.0);
+            self.tally
+                .expect(Call::TableTake, &input, (proved, &a.0), (answer, &table));
+        }
         let tally = &mut self.tally;
         let unstored = proved.matched > 0 && proved.stored == 0;
         tally.mark("take: several expired", proved.expired > 1);
@@ -274,6 +321,13 @@ impl Trial {
         let second = calls::table_read(table, place);
         let input = (table, place);
         self.tally.agree(Call::TableRead, &input, proved, second);
+        // Of a table that is taken, the record's own bytes read the same.
+        if let Some(record) = table.chunks(RECORD).nth(place) {
+            let alone = self.record_read(record);
+            if proved.refusal != 10 {
+                self.tally.expect(Call::RecordRead, &input, alone, proved);
+            }
+        }
         let used = proved.used == 1;
         let single = used && proved.report.form == 0;
         let multi = used && proved.report.form == 1;
@@ -281,6 +335,13 @@ impl Trial {
         self.tally.mark("read: a single-group report", single);
         self.tally.mark("read: a multi-group report", multi);
         self.tally.mark("read: a free record", free);
+    }
+
+    fn record_read(&mut self, record: &[u8]) -> TableReading {
+        let proved = proved::record_read(record);
+        let second = calls::record_read(record);
+        self.tally.agree(Call::RecordRead, &record, proved, second);
+        proved
     }
 
     /// Reads a record of which one byte or one bit at the end of the content was set.
@@ -346,7 +407,7 @@ impl Trial {
         let meant = TableReading {
             report,
             service,
-            expiry: sender::expiry(minute, lto, life) as u32,
+            expiry: sender::expiry(minute, lto, life),
             used: 1,
             refusal: 0,
         };
@@ -357,26 +418,38 @@ impl Trial {
 
     pub fn expiry(&mut self) {
         let random = &mut self.random;
-        let minute = match random.below(3) {
+        let minute = match random.below(4) {
             0 => random.number() as u32,
             1 => random.below(3000) as u32,
+            2 => LARGEST + random.below(3) as u32,
             _ => LARGEST - random.below(3000) as u32,
         };
-        let lto = random.number() as i8;
-        let life = match random.below(3) {
-            0 => 0,
-            _ => random.short(16),
+        let lto = match random.below(8) {
+            0 => random.number() as i8,
+            _ => random.lto(),
         };
+        let life = match random.below(4) {
+            0 => 0,
+            1 => random.short(16),
+            2 => random.pick(&[10_079, 10_080, 10_081]),
+            _ => random.short(13),
+        };
+        let fits = lto.unsigned_abs() <= 31 && minute <= LARGEST;
         // Now and then a midnight of the service.
         let minute = match random.below(4) {
-            0 => sender::expiry(minute, lto, 0) as u32,
+            0 if fits => sender::expiry(minute, lto, 0),
             _ => minute,
         };
         let proved = proved::expiry(minute, lto, life);
         let second = calls::expiry(minute, lto, life);
         let input = (minute, lto, life);
         self.tally.agree(Call::Expiry, &input, proved, second);
-        let meant = sender::expiry(minute, lto, life);
-        self.tally.expect(Call::Expiry, &input, proved, meant);
+        if fits && minute <= LARGEST && life <= 10_080 {
+            let meant = ExpiryAnswer {
+                minute: sender::expiry(minute, lto, life),
+                refusal: 0,
+            };
+            self.tally.expect(Call::Expiry, &input, proved, meant);
+        }
     }
 }

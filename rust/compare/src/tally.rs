@@ -5,7 +5,7 @@ use std::fmt::Debug;
 use std::process;
 
 /// The calls, each with the refusals that it can give.
-const CALLS: [(Call, &str, &[u8]); 20] = [
+const CALLS: [(Call, &str, &[u8]); 21] = [
     (Call::WordParse, "word parse", &[9]),
     (Call::WordCompose, "word compose", &[9]),
     (Call::SystemRead, "system read", &[2]),
@@ -23,7 +23,8 @@ const CALLS: [(Call, &str, &[u8]); 20] = [
     (Call::TableTake, "table take", &[9, 10, 11, 12, 13, 14]),
     (Call::TableExpire, "table expire", &[10, 13]),
     (Call::TableRead, "table read", &[7, 8, 9, 10]),
-    (Call::Expiry, "expiry", &[]),
+    (Call::RecordRead, "record read", &[7, 8, 10]),
+    (Call::Expiry, "expiry", &[9, 10, 13]),
     (Call::Transmission, "transmission", &[]),
     (Call::Listing, "listing", &[]),
 ];
@@ -47,6 +48,7 @@ pub enum Call {
     TableTake,
     TableExpire,
     TableRead,
+    RecordRead,
     Expiry,
     Transmission,
     Listing,
@@ -100,6 +102,7 @@ answers! {
     DrmReading {}
     TableAnswer {}
     TableReading {}
+    ExpiryAnswer {}
 }
 
 /// The number of a refusal is the whole answer.
@@ -128,7 +131,7 @@ macro_rules! unrefused {
     )*};
 }
 
-unrefused!(u16 u64);
+unrefused!(u16);
 
 #[derive(Default)]
 pub struct Tally {

@@ -71,7 +71,8 @@ mod c {
             minute: u32,
         ) -> TableAnswer;
         pub fn alertc_table_read(table: *const u8, table_len: usize, place: usize) -> TableReading;
-        pub fn alertc_expiry(minute: u32, lto: i8, life: u16) -> u64;
+        pub fn alertc_record_read(record: *const u8, record_len: usize) -> TableReading;
+        pub fn alertc_expiry(minute: u32, lto: i8, life: u16) -> ExpiryAnswer;
     }
 }
 
@@ -187,6 +188,10 @@ pub fn table_read(table: &[u8], place: usize) -> TableReading {
     unsafe { c::alertc_table_read(table.as_ptr(), table.len(), place) }
 }
 
-pub fn expiry(minute: u32, lto: i8, life: u16) -> u64 {
+pub fn record_read(record: &[u8]) -> TableReading {
+    unsafe { c::alertc_record_read(record.as_ptr(), record.len()) }
+}
+
+pub fn expiry(minute: u32, lto: i8, life: u16) -> ExpiryAnswer {
     unsafe { c::alertc_expiry(minute, lto, life) }
 }

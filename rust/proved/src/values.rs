@@ -196,6 +196,11 @@ values! {
         used: u8,
         refusal: u8,
     }
+
+    ExpiryAnswer, 8 {
+        minute: u32,
+        refusal: u8,
+    }
 }
 
 // The fields after which the sizes leave room for another place.

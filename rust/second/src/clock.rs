@@ -1,9 +1,13 @@
 //! The two clocks: minutes of UTC and minutes of service local time.
 
+use crate::{require, Refusal};
+
 /// The largest minute of UTC.
 pub const LARGEST: u32 = 4_000_000_000;
 /// The largest local time offset, either way, in half hours.
 pub const LARGEST_LTO: u8 = 31;
+/// The longest life, in minutes.
+pub const LONGEST_LIFE: u16 = 10_080;
 
 const HALF_HOUR: i64 = 30;
 const DAY: i64 = 1440;
@@ -24,14 +28,18 @@ impl Utc {
     }
 
     /// The minute at which a record of this life expires; life 0 is until the next midnight
-    /// of the service.
+    /// of the service. Refuses, in this order, a life that is too long (10), an offset out of
+    /// its range (9) and a minute that is too large (13).
     #[inline]
-    pub fn expiry(self, lto: i8, life: u16) -> u64 {
+    pub fn expiry(self, lto: i8, life: u16) -> Result<Self, Refusal> {
+        require(life <= LONGEST_LIFE, Refusal::Malformed)?;
+        require(lto.unsigned_abs() <= LARGEST_LTO, Refusal::Unfit)?;
+        require(self.0 <= LARGEST, Refusal::Minute)?;
         let life = match life {
             0 => self.local(lto).to_midnight(),
             _ => life.into(),
         };
-        u64::from(self.0) + u64::from(life)
+        Ok(Self(self.0 + life))
     }
 }
 
@@ -49,16 +57,25 @@ mod tests {
 
     #[test]
     fn until_midnight() {
-        assert_eq!(Utc(0).expiry(0, 0), 1440);
-        assert_eq!(Utc(0).expiry(2, 0), 1380);
-        assert_eq!(Utc(0).expiry(-1, 0), 30);
-        assert_eq!(Utc(1439).expiry(0, 0), 1440);
-        assert_eq!(Utc(1440).expiry(0, 0), 2880);
+        assert_eq!(Utc(0).expiry(0, 0), Ok(Utc(1440)));
+        assert_eq!(Utc(0).expiry(2, 0), Ok(Utc(1380)));
+        assert_eq!(Utc(0).expiry(-1, 0), Ok(Utc(30)));
+        assert_eq!(Utc(1439).expiry(0, 0), Ok(Utc(1440)));
+        assert_eq!(Utc(1440).expiry(0, 0), Ok(Utc(2880)));
     }
 
     #[test]
     fn a_life() {
-        assert_eq!(Utc(7).expiry(-31, 15), 22);
-        assert_eq!(Utc(LARGEST).expiry(31, 10_080), 4_000_010_080);
+        assert_eq!(Utc(7).expiry(-31, 15), Ok(Utc(22)));
+        let end = Utc(LARGEST).expiry(31, 10_080);
+        assert_eq!(end, Ok(Utc(4_000_010_080)));
+    }
+
+    #[test]
+    fn refusals_in_order() {
+        let late = Utc(LARGEST + 1);
+        assert_eq!(late.expiry(32, 10_081), Err(Refusal::Malformed));
+        assert_eq!(late.expiry(-32, 0), Err(Refusal::Unfit));
+        assert_eq!(late.expiry(-31, 0), Err(Refusal::Minute));
     }
 }

@@ -14,8 +14,6 @@ pub const MOST_RECORDS: usize = 1024;
 pub const EVENTS: usize = 2048;
 /// Lives: one for each duration of each duration type.
 pub const LIVES: usize = 16;
-/// The longest life in minutes.
-pub const LONGEST_LIFE: u16 = 10_080;
 /// Locations from here on are foreign.
 pub const FOREIGN: u16 = 0xFC00;
 
@@ -155,7 +153,7 @@ impl Lists<'_> {
         self.catalogue.len() == EVENTS
             && self.lives.len() == LIVES
             && self.catalogue.iter().fold(true, fits)
-            && self.lives.iter().all(|&life| life <= LONGEST_LIFE)
+            && self.lives.iter().all(|&life| life <= clock::LONGEST_LIFE)
     }
 }
 
@@ -266,7 +264,7 @@ pub fn take(
     let entry = Entry {
         report: *report,
         service,
-        expiry: minute.expiry(lto, life) as u32,
+        expiry: minute.expiry(lto, life)?.0,
     };
     let new = entry.write(groups, content, event.class());
     let (new_front, new_tail) = (front(&new) & MATCH_BITS, tail(&new) as u16);
@@ -310,6 +308,20 @@ pub fn take(
 #[inline]
 pub fn read(table: &[u8], i: usize) -> Result<Option<Entry>, Refusal> {
     let record = records(table)?.get(i).ok_or(Refusal::Unfit)?;
+    entry_of(record)
+}
+
+/// Reads one record's bytes. Refuses 10 what is not one well-formed record, 7 or 8 its content.
+#[inline]
+pub fn read_record(bytes: &[u8]) -> Result<Option<Entry>, Refusal> {
+    let record = bytes.try_into().map_err(|_| Refusal::Malformed)?;
+    require(is_well_formed(record), Refusal::Malformed)?;
+    entry_of(record)
+}
+
+/// What a well-formed record holds.
+#[inline]
+fn entry_of(record: &Record) -> Result<Option<Entry>, Refusal> {
     if is_free(record) {
         return Ok(None);
     }
