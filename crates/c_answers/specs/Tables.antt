@@ -7,7 +7,7 @@ use Rattle.record_report.specs.declared.Reading.{Reading}
 use Rattle.record_report.specs.declared.Answer.{Answer as Use}
 use Rattle.record_report.specs.Answers as kept
 use Rattle.table.specs.declared.Answer.{Answer}
-use Rattle.table.specs.declared.Arrival.{Arrival}
+use Rattle.checks.specs.declared.Arrival.{Arrival}
 use Rattle.table.specs.Answers as table·
 use Rattle.c_values.specs.declared.reports.PlainReport.{PlainReport}
 use Rattle.c_values.specs.Reports.{reportFrom, plainOf}

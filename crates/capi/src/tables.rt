@@ -10,9 +10,9 @@ use c_answers::tables::ExpiryAnswer;
 use c_answers::tables::RecordReading;
 use c_answers::tables::TableAnswer;
 use c_values::reports::PlainReport;
+use checks::Arrival;
 use clock::Utc;
 use record::Service;
-use table::Arrival;
 use table::Table;
 
 // Takes a report of a service at a minute.

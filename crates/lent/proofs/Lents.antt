@@ -1,20 +1,20 @@
 -- What a table, a catalogue and lives that fit say.
 use Prim.Native.Nat.{ℕ, zero, suc, _+_, _*_, _%_, _≤_, _<_}
 use native.Mathlib.Omega.{arith}
-use mathlib.Core.Path.{_≡_, refl, sym, ap, _∙_}
-use mathlib.Core.Bool.{Bool, true, _&&_}
+use mathlib.Core.Path.{_≡_, refl, sym, ap, ap₂, _∙_}
+use mathlib.Core.Bool.{Bool, true, false, not, _&&_, _||_}
 use mathlib.Core.List.{List, [], _∷_}
 use lib.ListN.{length, take, drop, getD}
 use lib.Seq.{drop-drop}
-use lib.Dec.{leb, eqb}
-use borrow.Author.Tests.{eqb-true, leb-true}
+use lib.Dec.{leb, ltb, eqb}
+use borrow.Author.Tests.{eqb-true, eqb-false, ne-eqb, leb-true}
 use Rattle.bits.proofs.Choice.{and-left, and-right}
 use Rattle.clock.specs.Time.{longestLife}
 use Rattle.record.specs.Layout.{recordSize, freeRecord}
 use Rattle.record.specs.WellFormed.{wellFormed}
 use Rattle.lent.specs.Records.{chunks, records, allOf}
 use Rattle.lent.specs.Table.{sized, tableFits}
-use Rattle.lent.specs.Catalogue.{entryFits, catalogueFits}
+use Rattle.lent.specs.Catalogue.{classOf, kindOf, entryFits, catalogueFits}
 use Rattle.lent.specs.Lives.{livesFit}
 use Rattle.lent.specs.Lent.{lentFit}
 use Rattle.lent.proofs.Passes.{nth}
@@ -50,6 +50,20 @@ unfolding allOf
 entry-at p [] i a h = absurd (omega arith)
 entry-at p (x ∷ l) zero a h = and-left (p x) (allOf p l) a
 entry-at p (x ∷ l) (suc i) a h = entry-at p l i (and-right (p x) (allOf p l) a) (omega arith)
+
+-- an ordinary event has an update class
+pub ordinary-class : (x : ℕ) → entryFits x ≡ true → kindOf x ≡ 1 → 1 ≤ classOf x
+unfolding entryFits
+ordinary-class x h e = by-test (eqb (classOf x) 0) refl (and-right (ltb x 512) _ h)
+  where
+    by-test : (b : Bool) → eqb (classOf x) 0 ≡ b → b && (eqb (kindOf x) 0 || eqb (kindOf x) 3) || not b && (eqb (kindOf x) 1 || eqb (kindOf x) 2) ≡ true → 1 ≤ classOf x
+    by-test true z k =
+        let no : eqb (kindOf x) 0 ≡ false = ne-eqb (kindOf x) 0 (λ y. omega arith) in
+        let nor : eqb (kindOf x) 3 ≡ false = ne-eqb (kindOf x) 3 (λ y. omega arith) in
+        let f : false ≡ true = sym (ap₂ (λ (u v : Bool). (u || v) || false) no nor) ∙ k in
+        let q : _≡_ {A = ℕ} 0 1 = cc in
+        absurd (omega arith)
+    by-test false z k = let some = eqb-false (classOf x) 0 z in omega arith
 
 module _ (t c l : List ℕ) (h : lentFit t c l ≡ true) where
   pub lent-table : tableFits t ≡ true

@@ -35,6 +35,11 @@ pub struct Location {
     pub code: u16,
 }
 
+impl Location {
+    // Codes below this are of the service's own table.
+    pub const FOREIGN: u16 = 0xFC00;
+}
+
 // What a report is matched by: its service, location, direction and the update class of its first event.
 pub struct Key {
     pub service: Service,

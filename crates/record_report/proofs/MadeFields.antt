@@ -12,8 +12,8 @@ use Rattle.report.specs.declared.Report.{Report}
 use Rattle.report.specs.Record.{bytesOf, groupsOf}
 use Rattle.record.specs.declared.Service.{Service}
 use Rattle.record.specs.Layout.{recordSize, byteAt, groupsIn, serviceIn, locationIn, headIn, expiryIn, contentIn, classIn}
-use Rattle.record_report.specs.Made.{tailBytes, recordOf}
 use Rattle.record.specs.Matching.{matching}
+use Rattle.record_report.specs.Made.{tailBytes, recordOf}
 use Rattle.record_report.proofs.Kept.{length-bytes}
 
 module _ (r : Report) (s : Service) (class expiry : ℕ) where

@@ -27,8 +27,8 @@ use Rattle.report.proofs.Kept.{no-items, single-none, report-items}
 use Rattle.record.specs.declared.Service.{Service}
 use Rattle.record.specs.Services.{serviceFits}
 use Rattle.record.specs.Layout.{groupsIn, expiryIn, classIn}
-use Rattle.record_report.specs.Made.{tailBytes, marksFit, canMake, recordOf}
 use Rattle.record.specs.WellFormed.{widths, within, rangesFit, marked, complete, contentBits, spareIn, restFits, wellFormed}
+use Rattle.record_report.specs.Made.{tailBytes, marksFit, canMake, recordOf}
 use Rattle.record_report.proofs.Kept.{length-bytes, groups-few}
 use Rattle.record_report.proofs.MadeFields.{used-back, groups-back, expiry-back, content-back, class-back}
 use Rattle.record_report.proofs.WayBack.{bits-back}

@@ -1,17 +1,19 @@
 -- The ways out of making a record.
 use Prim.Native.Nat.{ℕ}
-use mathlib.Core.Path.{_≡_, sym, ap, ap₂}
-use mathlib.Core.Bool.{Bool, true, cond, _&&_}
+use native.Mathlib.Omega.{arith}
+use mathlib.Core.Path.{_≡_, refl, sym, ap, ap₂, _∙_}
+use mathlib.Core.Bool.{Bool, true, false, cond, _&&_}
 use mathlib.Core.List.{List}
 use lib.ListN.{length}
 use borrow.Author.Tests.{eq-eqb, ne-eqb}
 use Rattle.bits.proofs.Choice.{chosen, passed-over}
 use Rattle.report.specs.declared.Report.{Report}
-use Rattle.record.specs.declared.Service.{Service}
-use Rattle.record_report.specs.declared.Making.the-variants.{Made, Refused}
-use Rattle.record.specs.Layout.{recordSize}
-use Rattle.record_report.specs.Made.{marksFit, recordOf, canMake, makingIn, bytesMade}
 use Rattle.report.specs.Fits.{reportFits}
+use Rattle.record.specs.declared.Service.{Service}
+use Rattle.record.specs.Layout.{recordSize, isRecord}
+use Rattle.record_report.specs.declared.Making.the-variants.{Made, Refused}
+use Rattle.record_report.specs.Made.{marksFit, recordOf, canMake, makingIn, bytesMade}
+use Rattle.record_report.specs.Answers.{makingNumber}
 
 module _ (out : List ℕ) (r : Report) (s : Service) (class expiry : ℕ) where
   pub not-a-record : (length out ≡ recordSize → ⊥) → (Refused 10 ≡ makingIn out r s class expiry) × (out ≡ bytesMade out r s class expiry)
@@ -34,3 +36,22 @@ module _ (out : List ℕ) (r : Report) (s : Service) (class expiry : ℕ) where
   pub bytes-made : length out ≡ recordSize → canMake r s class expiry ≡ true → bytesMade out r s class expiry ≡ recordOf r s class expiry
   unfolding bytesMade
   bytes-made e can = chosen _ _ _ (ap₂ (λ (a b : Bool). a && b) (eq-eqb (length out) recordSize e) can)
+
+  -- by its number: a refusal leaves the bytes, and else they are the record
+  pub refused-keeps : (makingNumber (makingIn out r s class expiry) ≡ 0 → ⊥) → bytesMade out r s class expiry ≡ out
+  unfolding makingIn bytesMade
+  refused-keeps h = by-tests (isRecord out) (canMake r s class expiry) refl refl
+    where
+      by-tests : (x y : Bool) → isRecord out ≡ x → canMake r s class expiry ≡ y → bytesMade out r s class expiry ≡ out
+      by-tests true true e f = absurd (h (ap₂ (λ (a b : Bool). makingNumber (cond a (cond b Made (Refused 9)) (Refused 10))) e f))
+      by-tests true false e f = ap₂ (λ (a b : Bool). cond (a && b) (recordOf r s class expiry) out) e f
+      by-tests false y e f = ap (λ (a : Bool). cond (a && canMake r s class expiry) (recordOf r s class expiry) out) e
+
+  pub accepted-makes : makingNumber (makingIn out r s class expiry) ≡ 0 → bytesMade out r s class expiry ≡ recordOf r s class expiry
+  unfolding makingIn bytesMade
+  accepted-makes h = by-tests (isRecord out) (canMake r s class expiry) refl refl
+    where
+      by-tests : (x y : Bool) → isRecord out ≡ x → canMake r s class expiry ≡ y → bytesMade out r s class expiry ≡ recordOf r s class expiry
+      by-tests true true e f = ap₂ (λ (a b : Bool). cond (a && b) (recordOf r s class expiry) out) e f
+      by-tests true false e f = absurd (let z : 9 ≡ 0 = sym (ap₂ (λ (a b : Bool). makingNumber (cond a (cond b Made (Refused 9)) (Refused 10))) e f) ∙ h in omega arith)
+      by-tests false y e f = absurd (let z : 10 ≡ 0 = sym (ap (λ (a : Bool). makingNumber (cond a (cond (canMake r s class expiry) Made (Refused 9)) (Refused 10))) e) ∙ h in omega arith)

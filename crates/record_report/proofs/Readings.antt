@@ -20,9 +20,9 @@ use Rattle.report.specs.Report.{singleReport}
 use Rattle.report.specs.Read.{readBits, outcomeOf}
 use Rattle.report.proofs.Outcomes.{was-read, was-refused}
 use Rattle.record.specs.declared.Service.{Service}
-use Rattle.record_report.specs.declared.Answer.the-variants.{Free, Read, Refused}
 use Rattle.record.specs.Layout.{recordSize, byteAt, groupsIn, headIn, durationIn, diversionIn, contentIn, serviceIn, expiryIn}
 use Rattle.record.specs.WellFormed.{contentBits, wellFormed}
+use Rattle.record_report.specs.declared.Answer.the-variants.{Free, Read, Refused}
 use Rattle.record_report.specs.Reads.{messageIn, nothing, answered, readingIn, readingOf}
 
 -- the message of a record by its groups

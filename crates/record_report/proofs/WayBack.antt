@@ -26,8 +26,8 @@ use Rattle.report.proofs.Multi.{fit-writable}
 use Rattle.report.proofs.Kept.{report-items}
 use Rattle.report.proofs.OwnParts.{multi-is-report, single-is-report}
 use Rattle.record.specs.declared.Service.{Service}
-use Rattle.record_report.specs.declared.Answer.the-variants.{Read}
 use Rattle.record.specs.Layout.{byteAt, groupsIn, serviceIn, expiryIn}
+use Rattle.record_report.specs.declared.Answer.the-variants.{Read}
 use Rattle.record_report.specs.Made.{recordOf}
 use Rattle.record_report.specs.Reads.{messageIn, answered, readingIn}
 use Rattle.record_report.proofs.MadeFields.{used-back, groups-back, head-back, expiry-back, content-back, service-back}

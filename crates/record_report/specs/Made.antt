@@ -9,10 +9,10 @@ use Rattle.report.specs.declared.Report.{Report}
 use Rattle.report.specs.Fits.{reportFits}
 use Rattle.report.specs.Record.{bytesOf, groupsOf}
 use Rattle.record.specs.declared.Service.{Service}
-use Rattle.record_report.specs.declared.Making.{Making}
-use Rattle.record_report.specs.declared.Making.the-variants.{Made, Refused}
 use Rattle.record.specs.Services.{serviceFits}
 use Rattle.record.specs.Layout.{isRecord}
+use Rattle.record_report.specs.declared.Making.{Making}
+use Rattle.record_report.specs.declared.Making.the-variants.{Made, Refused}
 
 -- bytes 0 to 3: the mark of a used record, groups, SID, LTN
 abbrev pub markBytes : ℕ → Service → List ℕ

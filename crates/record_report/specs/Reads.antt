@@ -10,11 +10,11 @@ use Rattle.report.specs.declared.Report.{Report}
 use Rattle.report.specs.Report.{singleReport, blank}
 use Rattle.report.specs.Read.{readBits}
 use Rattle.record.specs.declared.Service.{Service}
+use Rattle.record.specs.Layout.{isRecord, isFree, groupsIn, headIn, durationIn, diversionIn, contentIn, serviceIn, expiryIn}
+use Rattle.record.specs.WellFormed.{contentBits, wellFormed}
 use Rattle.record_report.specs.declared.Reading.{Reading}
 use Rattle.record_report.specs.declared.Answer.{Answer}
 use Rattle.record_report.specs.declared.Answer.the-variants.{Free, Read, Refused}
-use Rattle.record.specs.Layout.{isRecord, isFree, groupsIn, headIn, durationIn, diversionIn, contentIn, serviceIn, expiryIn}
-use Rattle.record.specs.WellFormed.{contentBits, wellFormed}
 
 -- the message of a used record: a single-group report, or the head with the items of the content
 unfoldable pub messageIn : List ℕ → Outcome Report ℕ

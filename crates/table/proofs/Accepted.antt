@@ -14,14 +14,15 @@ use Rattle.record.specs.Matching.{matching}
 use Rattle.record.specs.Gone.{expired, either}
 use Rattle.record_report.specs.Made.{recordOf}
 use Rattle.record_report.proofs.MadeFields.{length-made}
-use Rattle.table.specs.declared.Arrival.{Arrival}
-use Rattle.table.specs.Events.{kindFor, classFor}
+use Rattle.lent.proofs.Lents.{lent-whole}
+use Rattle.checks.specs.declared.Arrival.{Arrival}
+use Rattle.checks.specs.Events.{kindFor, classFor, expiryFor}
+use Rattle.checks.specs.Checks.{checkRefusal}
+use Rattle.checks.proofs.Checked.{Checked, checked}
 use Rattle.table.specs.Steps.{afterMatching, placeIn, noRoom, afterStoring}
-use Rattle.table.specs.Take.{keyOf, matches, matchesOf, expiryFor, recordFor, checkRefusal, takeRefusal, takenTable, takeTable}
+use Rattle.table.specs.Take.{keyOf, matches, matchesOf, recordFor, takeRefusal, takenTable, takeTable}
 use Rattle.table.proofs.Counts.{clash}
 use Rattle.table.proofs.Freeing.{length-both, whole-both}
-use Rattle.lent.proofs.Lents.{lent-whole}
-use Rattle.table.proofs.Checked.{Checked, checked}
 use Rattle.table.proofs.Takes.{refused-take, accepted-take}
 
 -- a test that holds of used records only

@@ -13,16 +13,19 @@ use Rattle.bits.specs.Bits.{num}
 use Rattle.bits.proofs.Choice.{chosen, passed-over}
 use Rattle.record.specs.Layout.{freeRecord, isFree}
 use Rattle.record.specs.Gone.{expired, either, onlySecond, freedIf}
-use Rattle.table.specs.declared.Arrival.{Arrival}
+use Rattle.lent.specs.Records.{records}
+use Rattle.lent.specs.Table.{tableFits}
+use Rattle.lent.proofs.Lents.{table-whole}
+use Rattle.checks.specs.declared.Arrival.{Arrival}
+use Rattle.checks.specs.Checks.{minuteUnfit}
+use Rattle.checks.specs.Events.{kindFor}
+use Rattle.checks.proofs.Checked.{minute-fits, kinds}
 use Rattle.table.specs.declared.Step.{Step}
 use Rattle.table.specs.declared.Answer.the-variants.{Freed, Stored, Refused}
 use Rattle.table.specs.Answers.{expiredOf, matchedOf, storedOf}
-use Rattle.lent.specs.Records.{records}
 use Rattle.table.specs.Records.{countIf, countWhere}
-use Rattle.lent.specs.Table.{tableFits}
-use Rattle.table.specs.Steps.{step, minuteUnfit, expiredIn, afterMatching, matchedIn, placeIn, afterStoring}
+use Rattle.table.specs.Steps.{step, expiredIn, afterMatching, matchedIn, placeIn, afterStoring}
 use Rattle.table.specs.Expire.{expireRefusal, expireStep, expireTable}
-use Rattle.table.specs.Events.{kindFor}
 use Rattle.table.specs.Take.{matchesOf, takeRefusal, takenStep, takenTable, takeStep, takeTable}
 use Rattle.table.specs.Calls.{Call, taking, expiring, stepOf, tableAfter, minuteOf, matchOf, storesOf, madeOf}
 use Rattle.table.specs.Effect.{Effect, refuses, frees, stores, freedBy, usedIn}
@@ -30,8 +33,6 @@ use Rattle.table.proofs.Counts.{count-either, count-set, first-holds}
 use Rattle.table.proofs.Sweeps.{length-records}
 use Rattle.table.proofs.Storing.{records-stored}
 use Rattle.table.proofs.Freeing.{matched-counted, records-both, place-is, nothing-matched, nothing-changed}
-use Rattle.lent.proofs.Lents.{table-whole}
-use Rattle.table.proofs.Checked.{minute-fits, kinds}
 use Rattle.table.proofs.Takes.{refused-take, accepted-take, refused-expiry, expiry-by, accepted-expiry}
 use Rattle.table.proofs.Accepted.{OnlyUsed, expired-used, matches-used, either-used, matches-never, made-used, made-sized, ok, whole, inside, both-whole, both-inside}
 

@@ -6,27 +6,28 @@ use lib.IntN.{pos}
 use lib.ListN.{replicate}
 use Rattle.bits.specs.Bits.{bits, bit, num, allZero}
 use Rattle.bits.specs.Fields.{flat, fits}
-use Rattle.clock.specs.Time.{offsetFits}
 use Rattle.content.specs.Stored.{filled, wellPlaced, allZeroItems}
 use Rattle.content.specs.Packing.{zeroItem}
 use Rattle.report.specs.Report.{singleReport}
 use Rattle.report.specs.Fits.{singleFits, fitsBy, reportFits}
+use Rattle.clock.specs.Time.{offsetFits}
 use Rattle.record.specs.Layout.{freeRecord}
 use Rattle.record.specs.Matching.{matching}
 use Rattle.record.specs.Gone.{expired, freedIf}
-use Rattle.record_report.specs.Made.{expiryBytes}
 use Rattle.record.specs.WellFormed.{widths, within, rangesFit, marked, complete, restFits, wellFormed}
-use Rattle.table.specs.declared.Arrival.{Arrival}
-use Rattle.table.specs.declared.Answer.the-variants.{Freed, Stored, Refused}
+use Rattle.record_report.specs.Made.{expiryBytes}
 use Rattle.lent.specs.Records.{chunks, records, allOf}
-use Rattle.table.specs.Records.{joined, countIf, firstOf, over, countWhere, lowestFree}
 use Rattle.lent.specs.Table.{sized, tableFits}
 use Rattle.lent.specs.Catalogue.{entryFits, catalogueFits}
 use Rattle.lent.specs.Lives.{livesFit}
+use Rattle.lent.specs.Lent.{lentFit}
+use Rattle.checks.specs.declared.Arrival.{Arrival}
+use Rattle.checks.specs.Checks.{askedFit, laterRefusal, checkRefusal}
+use Rattle.table.specs.declared.Answer.the-variants.{Freed, Stored, Refused}
+use Rattle.table.specs.Records.{joined, countIf, firstOf, over, countWhere, lowestFree}
 use Rattle.table.specs.Steps.{step, afterMatching, matchedIn, placeIn}
 use Rattle.table.specs.Expire.{expireRefusal, expireStep, expireTable}
-use Rattle.table.specs.Take.{matches, askedFit, laterRefusal, checkRefusal, takeRefusal, takenStep, takeStep}
-use Rattle.lent.specs.Lent.{lentFit}
+use Rattle.table.specs.Take.{matches, takeRefusal, takenStep, takeStep}
 
 -- a table of one record, which ends at minute 100
 abbrev pub until-100 : List ℕ

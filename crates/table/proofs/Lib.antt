@@ -3,7 +3,7 @@ pub mod Counts
 pub mod Sweeps
 pub mod Storing
 pub mod Freeing
-pub mod Checked
+pub mod Storable
 pub mod Takes
 pub mod Accepted
 pub mod Demand2

@@ -8,8 +8,8 @@ use lib.Seq.{take-add, drop-drop, take-at, drop-at, length-take-le}
 use borrow.Rule.Slice.PartMut.{putMid, same-len-mid}
 use Rattle.record.specs.Layout.{recordSize}
 use Rattle.lent.specs.Records.{chunks, records}
-use Rattle.table.specs.Records.{joined, stored}
 use Rattle.lent.proofs.Passes.{part-is, length-nth}
+use Rattle.table.specs.Records.{joined, stored}
 
 pub joined-chunks : (n : ℕ) (t : List ℕ) → length t ≡ n * recordSize → joined (chunks n t) ≡ t
 unfolding joined chunks

@@ -11,8 +11,8 @@ use borrow.Rule.Slice.PartMut.{putMid}
 use Rattle.bits.specs.Bits.{num}
 use Rattle.record.specs.Layout.{recordSize}
 use Rattle.lent.specs.Records.{chunks, records}
-use Rattle.table.specs.Records.{joined, countIf, over, countWhere}
 use Rattle.lent.proofs.Passes.{nth, part-is, length-nth}
+use Rattle.table.specs.Records.{joined, countIf, over, countWhere}
 use Rattle.table.proofs.Counts.{count-snoc}
 
 -- a function of a record that keeps its length

@@ -12,14 +12,15 @@ use Rattle.bits.proofs.Choice.{chosen, passed-over}
 use Rattle.record.specs.declared.Key.{Key}
 use Rattle.record.specs.Layout.{recordSize, freeRecord}
 use Rattle.record.specs.Matching.{matching}
-use Rattle.table.specs.declared.Arrival.{Arrival}
+use Rattle.lent.specs.Table.{tableFits}
+use Rattle.checks.specs.declared.Arrival.{Arrival}
+use Rattle.checks.specs.Events.{kindFor}
+use Rattle.checks.specs.Checks.{minuteUnfit, checkRefusal}
 use Rattle.table.specs.declared.Step.{Step}
 use Rattle.table.specs.declared.Answer.the-variants.{Freed, Stored, Refused}
-use Rattle.lent.specs.Table.{tableFits}
-use Rattle.table.specs.Events.{kindFor}
-use Rattle.table.specs.Steps.{step, minuteUnfit, afterExpiry, expiredIn, afterMatching, matchedIn, placeIn, noRoom, afterStoring}
+use Rattle.table.specs.Steps.{step, afterExpiry, expiredIn, afterMatching, matchedIn, placeIn, noRoom, afterStoring}
 use Rattle.table.specs.Expire.{expireRefusal, expireStep, expireTable}
-use Rattle.table.specs.Take.{keyOf, matches, matchesOf, recordFor, checkRefusal, takeRefusal, takenStep, takenTable, takeStep, takeTable}
+use Rattle.table.specs.Take.{keyOf, matches, matchesOf, recordFor, takeRefusal, takenStep, takenTable, takeStep, takeTable}
 use Rattle.table.proofs.Freeing.{nothing-matched, nothing-changed}
 
 -- no free record matches

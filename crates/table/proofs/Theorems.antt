@@ -14,30 +14,31 @@ use Rattle.bits.specs.Bits.{num}
 use Rattle.bits.proofs.Choice.{and-left, chosen, passed-over}
 use Rattle.content.specs.Stored.{limit}
 use Rattle.report.specs.Record.{groupsOf}
-use Rattle.record_report.specs.declared.Answer.the-variants.{Read}
 use Rattle.record.specs.Layout.{recordSize, freeRecord, groupsIn}
 use Rattle.record.specs.Matching.{matching}
 use Rattle.record.specs.Gone.{expired, either, freedIf}
 use Rattle.record.specs.WellFormed.{wellFormed}
-use Rattle.record_report.specs.Reads.{readingIn}
 use Rattle.record.proofs.FreeFits.{free-fits}
+use Rattle.record_report.specs.declared.Answer.the-variants.{Read}
+use Rattle.record_report.specs.Reads.{readingIn}
 use Rattle.record_report.proofs.MadeFields.{groups-back, made-matches}
 use Rattle.record_report.proofs.WayBack.{reading-back}
-use Rattle.table.specs.declared.Arrival.{Arrival}
 use Rattle.lent.specs.Records.{records, allOf}
-use Rattle.table.specs.Records.{countIf, freeWhere, stored}
 use Rattle.lent.specs.Table.{sized, tableFits}
-use Rattle.table.specs.Events.{kindFor, classFor}
+use Rattle.lent.proofs.Lents.{table-whole, table-records, lent-table}
+use Rattle.checks.specs.declared.Arrival.{Arrival}
+use Rattle.checks.specs.Events.{kindFor, classFor, expiryFor}
+use Rattle.checks.proofs.Checked.{asked-report}
+use Rattle.table.specs.Records.{countIf, freeWhere, stored}
 use Rattle.table.specs.Steps.{afterMatching, placeIn, afterStoring}
 use Rattle.table.specs.Expire.{expireRefusal, expireTable}
-use Rattle.table.specs.Take.{keyOf, matches, matchesOf, expiryFor, recordFor, takeRefusal, takenTable, takeTable}
+use Rattle.table.specs.Take.{keyOf, matches, matchesOf, recordFor, takeRefusal, takenTable, takeTable}
 use Rattle.table.specs.Read.{recordAt}
 use Rattle.table.proofs.Counts.{count-map, count-none, count-set, all-map, all-set}
 use Rattle.table.proofs.Sweeps.{length-records, length-over, records-over}
 use Rattle.table.proofs.Storing.{length-stored, records-stored}
 use Rattle.table.proofs.Freeing.{freed-either, freed-keeps, each-record, second-gone, length-both, records-both, both-at-once}
-use Rattle.lent.proofs.Lents.{table-whole, table-records, lent-table}
-use Rattle.table.proofs.Checked.{asked-report, record-fits}
+use Rattle.table.proofs.Storable.{record-fits}
 use Rattle.table.proofs.Takes.{accepted-take}
 use Rattle.table.proofs.Accepted.{matches-never, made-sized, ok, whole, inside, both-whole, both-inside, after-take}
 

@@ -5,9 +5,9 @@ use mathlib.Core.List.{List}
 use lib.IntN.{ℤ}
 use lib.Dec.{eqb}
 use Rattle.record.specs.Layout.{freeRecord}
-use Rattle.table.specs.declared.Arrival.{Arrival}
+use Rattle.checks.specs.declared.Arrival.{Arrival}
+use Rattle.checks.specs.Events.{kindFor}
 use Rattle.table.specs.declared.Step.{Step}
-use Rattle.table.specs.Events.{kindFor}
 use Rattle.table.specs.Expire.{expireStep, expireTable}
 use Rattle.table.specs.Take.{matchesOf, recordFor, takeStep, takeTable}
 

@@ -6,9 +6,9 @@ use mathlib.Core.List.{List, map}
 use lib.ListN.{length, set}
 use Rattle.record.specs.Layout.{isFree}
 use Rattle.record.specs.Gone.{expired, either, onlySecond, freedIf}
+use Rattle.lent.specs.Records.{records}
 use Rattle.table.specs.declared.Step.{Step}
 use Rattle.table.specs.declared.Answer.the-variants.{Freed, Stored, Refused}
-use Rattle.lent.specs.Records.{records}
 use Rattle.table.specs.Records.{countIf, firstOf}
 use Rattle.table.specs.Steps.{step}
 use Rattle.table.specs.Calls.{Call, minuteOf, matchOf, storesOf, madeOf}

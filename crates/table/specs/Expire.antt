@@ -3,10 +3,11 @@ use Prim.Native.Nat.{ℕ}
 use mathlib.Core.Bool.{cond}
 use mathlib.Core.List.{List}
 use lib.Dec.{eqb}
+use Rattle.lent.specs.Table.{tableFits}
+use Rattle.checks.specs.Checks.{minuteUnfit}
 use Rattle.table.specs.declared.Step.{Step}
 use Rattle.table.specs.declared.Answer.the-variants.{Freed, Refused}
-use Rattle.lent.specs.Table.{tableFits}
-use Rattle.table.specs.Steps.{step, minuteUnfit, afterExpiry, expiredIn}
+use Rattle.table.specs.Steps.{step, afterExpiry, expiredIn}
 
 -- the first refusal, or 0
 unfoldable pub expireRefusal : List ℕ → (last minute : ℕ) → ℕ

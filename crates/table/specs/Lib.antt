@@ -1,4 +1,3 @@
-pub mod Events
 pub mod Records
 pub mod Steps
 pub mod Expire

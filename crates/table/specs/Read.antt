@@ -4,9 +4,9 @@ use mathlib.Core.Bool.{cond}
 use mathlib.Core.List.{List}
 use lib.ListN.{length, getD}
 use lib.Dec.{leb}
+use Rattle.record.specs.Layout.{recordSize, freeRecord}
 use Rattle.record_report.specs.declared.Reading.{Reading}
 use Rattle.record_report.specs.declared.Answer.the-variants.{Refused}
-use Rattle.record.specs.Layout.{recordSize, freeRecord}
 use Rattle.record_report.specs.Reads.{nothing, readingIn}
 use Rattle.lent.specs.Records.{records}
 use Rattle.lent.specs.Table.{tableFits}

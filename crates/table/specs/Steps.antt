@@ -1,11 +1,10 @@
 -- The three steps of a call on the table (document 01, "The message table"; ISO 14819-1, clauses 6.4 and 6.5). Step 2 is for any test of
 -- what matches: for a call that matches nothing, it never holds.
 use Prim.Native.Nat.{ℕ, _/_}
-use mathlib.Core.Bool.{Bool, _||_}
+use mathlib.Core.Bool.{Bool}
 use mathlib.Core.List.{List}
 use lib.ListN.{length}
-use lib.Dec.{leb, ltb}
-use Rattle.clock.specs.Time.{largest}
+use lib.Dec.{leb}
 use Rattle.record.specs.Layout.{recordSize}
 use Rattle.record.specs.Gone.{expired}
 use Rattle.table.specs.declared.Step.{Step}
@@ -15,10 +14,6 @@ use Rattle.table.specs.Records.{freeWhere, countWhere, lowestFree, store
 -- the state after a call, and its answer
 abbrev pub step : ℕ → Answer → Step
 step last answer = record { last = record { 0 = last }; answer = answer }
-
--- a minute below the last one or too large
-abbrev pub minuteUnfit : ℕ → ℕ → Bool
-minuteUnfit last minute = ltb minute last || ltb largest minute
 
 -- step 1: the records that have expired are freed, so many
 abbrev pub afterExpiry : ℕ → List ℕ → List ℕ

@@ -4,13 +4,14 @@ ghost use Prim.Native.Nat.{_%_};
 ghost use lib.ListN.{length};
 ghost use Rattle.record.specs.Layout.{recordSize};
 ghost use Rattle.table.specs.declared.Answer.the-variants.{Freed};
-ghost use Rattle.table.specs.Steps.{step, minuteUnfit, afterExpiry, expiredIn};
+ghost use Rattle.table.specs.Steps.{step, afterExpiry, expiredIn};
 ghost use Rattle.table.specs.Expire.{expireStep, expireTable};
 use crate::Answer;
 use crate::Step;
 use crate::Table;
 use crate::refused;
 use crate::sweep::sweep_expired;
+use checks::minute_unfit;
 use clock::Utc;
 use lent::table::table_fits;
 
@@ -29,13 +30,6 @@ impl Table {
         }
         free_expired(t, minute)
     }
-}
-
-// Whether a minute is below the last one or too large.
-pub(crate) fn minute_unfit(last: Utc, minute: Utc) -> bool
-    ensures { λ b. ⌜ b ≡ minuteUnfit (last .0) (minute .0) ⌝ }
-{
-    (minute.0 < last.0) | (Utc::LARGEST < minute.0)
 }
 
 // Step 1 alone, as a call that is accepted answers it.

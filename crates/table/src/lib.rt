@@ -9,15 +9,6 @@ mod sweep;
 mod take;
 
 use clock::Utc;
-use record::Service;
-use report::Report;
-
-// What arrives: a report of a service, at a minute of UTC.
-pub struct Arrival {
-    pub report: Report,
-    pub service: Service,
-    pub minute: Utc,
-}
 
 // How many records a call freed as expired and as matching, and where it stored the report; or the refusal's number.
 pub enum Answer {
@@ -41,11 +32,6 @@ pub struct Step {
 
 // The calls on a table.
 pub struct Table;
-
-impl Table {
-    // Location codes below this are of the service's own table.
-    pub const FOREIGN: u16 = 0xFC00;
-}
 
 // A refusal: the last accepted minute stays.
 pub(crate) fn refused(last: Utc, number: u8) -> Step

@@ -36,12 +36,12 @@ pub(crate) fn sweep_gone(t: &mut [u8], minute: Utc, key: Key) -> Freed
     ensures { λ f. ⌜ f ≡ record { expired = expiredIn (minute .0) (now (t .entry)); matched = matchedIn (minute .0) (matching key) (now (t .entry)) } ⌝ }
     ensures { λ _. ⌜ now (t .exit) ≡ afterMatching (minute .0) (matching key) (now (t .entry)) ⌝ }
 {
-    let n = t.len() / Record::SIZE;
+    let records = t.len() / Record::SIZE;
     let mut expired = 0;
     // The matching records are counted down from all: two counts that go the same way are kept in memory as one vector.
-    let mut unmatched = n;
+    let mut unmatched = records;
     let mut i = 0;
-    while i < n {
+    while i < records {
         let a = i * Record::SIZE;
         let e = a + Record::SIZE;
         let freed = free_gone(&mut t[a..e], minute, key);
@@ -51,6 +51,6 @@ pub(crate) fn sweep_gone(t: &mut [u8], minute: Utc, key: Key) -> Freed
     }
     Freed {
         expired,
-        matched: n - unmatched,
+        matched: records - unmatched,
     }
 }

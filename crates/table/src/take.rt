@@ -6,25 +6,24 @@ ghost use lib.ListN.{length};
 ghost use Rattle.record.specs.Layout.{recordSize};
 ghost use Rattle.record.specs.Matching.{matching};
 ghost use Rattle.record_report.specs.Made.{recordOf, canMake};
+ghost use Rattle.checks.specs.Checks.{checkRefusal};
 ghost use Rattle.table.specs.declared.Answer.the-variants.{Freed, Stored, Refused};
 ghost use Rattle.table.specs.Records.{stored};
 ghost use Rattle.table.specs.Steps.{step, expiredIn, afterMatching, matchedIn, placeIn, noRoom, afterStoring};
-ghost use Rattle.table.specs.Take.{askedFit, laterRefusal, checkRefusal, takeStep, takeTable};
+ghost use Rattle.table.specs.Take.{takeStep, takeTable};
 use crate::Answer;
-use crate::Arrival;
 use crate::Step;
 use crate::Table;
 use crate::expire::free_expired;
-use crate::expire::minute_unfit;
 use crate::refused;
 use crate::search::find_free;
 use crate::sweep::sweep_gone;
+use checks::Arrival;
+use checks::check;
 use clock::Expiry;
 use clock::Utc;
-use clock::offset_fits;
 use lent::Lent;
 use lent::catalogue::Entry;
-use lent::lent_fit;
 use record::Key;
 use record::Location;
 use record::Record;
@@ -54,50 +53,6 @@ impl Table {
         }
         take_checked(t, catalogue, lives, last, arrival, lto)
     }
-}
-
-// The first refusal but that for want of room, or 0.
-fn check(t: &[u8], catalogue: &[u16], lives: &[u16], last: Utc, arrival: Arrival, lto: i8) -> u8
-    ensures { λ n. ⌜ n ≡ checkRefusal (now (t .entry)) (now (catalogue .entry)) (now (lives .entry)) (last .0) arrival lto ⌝ }
-{
-    if !lent_fit(t, catalogue, lives) {
-        return 10;
-    }
-    let report = arrival.report;
-    let service = arrival.service;
-    if !asked_fit(report, service, lto) {
-        return 9;
-    }
-    let head = report.head;
-    let entry = Entry(catalogue[head.event as usize]);
-    let minute = arrival.minute;
-    let location = Location {
-        code: head.location,
-    };
-    later_refusal(last, minute, location, entry.kind())
-}
-
-// Whether the report, the service and the offset are in their ranges.
-fn asked_fit(report: Report, service: Service, lto: i8) -> bool
-    ensures { λ b. ⌜ b ≡ askedFit report service lto ⌝ }
-{
-    report.fits() & (service.fits() & offset_fits(lto))
-}
-
-// The refusal by minute, location and kind of event, or 0.
-fn later_refusal(last: Utc, minute: Utc, location: Location, kind: u16) -> u8
-    ensures { λ n. ⌜ n ≡ laterRefusal (last .0) (minute .0) location kind ⌝ }
-{
-    if minute_unfit(last, minute) {
-        return 13;
-    }
-    if Table::FOREIGN <= location.code {
-        return 12;
-    }
-    if kind == Entry::UNKNOWN {
-        return 11;
-    }
-    0
 }
 
 // A report that nothing refuses but, perhaps, want of room.

@@ -14,12 +14,6 @@ use borrow.Author.Needs.{needs}
 use Rattle.lent.proofs.table.table_fits.Statement.{statement}
 use Rattle.lent.proofs.table.table_fits.Tie as tie
 
-records-fit-requires : tie.Need-records-fit-requires
-records-fit-requires c κs =
-    let n = length (c .before .before .args .t .now) in
-    let last = eqb (n % recordSize) 0 in
-    eqb-true (n % recordSize) 0 (and-right (leb n (1024 * recordSize)) last (and-right (leb recordSize n) (leb n (1024 * recordSize) && last) (c .if1 .taken)))
-
 returns : tie.Need-returns
 unfolding tableFits sized
 returns c = c .records-fit .ensures ∙ sym (ap (λ (b : Bool). b && allOf wellFormed (records (c .before .before .before .args .t .now))) (c .before .if1 .taken))
@@ -27,6 +21,12 @@ returns c = c .records-fit .ensures ∙ sym (ap (λ (b : Bool). b && allOf wellF
 returns-2 : tie.Need-returns-2
 unfolding tableFits sized
 returns-2 c = sym (ap (λ (b : Bool). b && allOf wellFormed (records (c .before .before .args .t .now))) (c .if1 .left))
+
+records-fit-requires : tie.Need-records-fit-requires
+records-fit-requires c κs =
+    let n = length (c .before .before .args .t .now) in
+    let last = eqb (n % recordSize) 0 in
+    eqb-true (n % recordSize) 0 (and-right (leb n (1024 * recordSize)) last (and-right (leb recordSize n) (leb n (1024 * recordSize) && last) (c .if1 .taken)))
 
 pub table-fits-spec : {M : Type 1} → statement M
 table-fits-spec = tie.close (tie.spec (λ c. search needs) records-fit-requires returns returns-2)

@@ -1,16 +1,18 @@
 -- The parts one after the other, or nothing changed.
 use Prim.Native.Nat.{ℕ}
 use native.Mathlib.Omega.{arith}
-use mathlib.Core.Path.{refl, sym, ap, ap₂, _∙_}
+use mathlib.Core.Path.{_≡_, refl, sym, ap, ap₂, _∙_}
 use mathlib.Core.Bool.{true, false}
 use mathlib.Core.List.{List, _++_}
-use lib.ListN.{take, drop}
+use lib.ListN.{length, take, drop}
 use borrow.Rule.Slice.PartMut.{putMid}
 use borrow.Author.Tests.{not-true, not-false}
 use Rattle.content.specs.Stored.{listed}
+use Rattle.report.specs.declared.Report.{Report}
 use Rattle.report.specs.Fits.{reportFits}
-use Rattle.report.specs.Record.{bytesOf, groupsOf}
-use Rattle.record.specs.Layout.{contentIn}
+use Rattle.report.specs.Record.{bytesOf}
+use Rattle.record.specs.declared.Service.{Service}
+use Rattle.record.specs.Layout.{recordSize, contentIn}
 use Rattle.record_report.specs.Made.{frontBytes, tailBytes, recordOf}
 use Rattle.record_report.proofs.Filling.{length-content, part-kept, content-put}
 use Rattle.record_report.proofs.Kept.{length-bytes, groups-few, packed-bytes, groups-told, refused-told}
@@ -18,6 +20,13 @@ use Rattle.record_report.proofs.Makings.{not-a-record, made-by}
 use borrow.Author.Needs.{needs}
 use Rattle.record_report.proofs.make.put.Statement.{statement}
 use Rattle.record_report.proofs.make.put.Tie as tie
+
+-- the content as it was stored, between the other bytes
+parts : (r : Report) (s : Service) (class expiry n g : ℕ) (xs l its : List ℕ) → n ≡ g → l ≡ its → length xs ≡ recordSize → length its ≡ 14
+    → frontBytes n r s expiry ++ (contentIn (putMid 16 14 xs l) ++ tailBytes class s) ≡ frontBytes g r s expiry ++ (its ++ tailBytes class s)
+parts r s class expiry n g xs l its e f long size =
+    ap₂ (λ (m : ℕ) (b : List ℕ). frontBytes m r s expiry ++ (contentIn (putMid 16 14 xs b) ++ tailBytes class s)) e f
+    ∙ ap (λ (b : List ℕ). frontBytes g r s expiry ++ (b ++ tailBytes class s)) (content-put xs its long size)
 
 returns : tie.Need-returns
 returns c = let a = c .before .before .args in not-a-record (a .r .now) (a .report) (a .service) (a .class) (a .expiry .0) (c .if1 .taken)
@@ -59,10 +68,7 @@ returns-4 c =
     let its = bytesOf (listed (a .report .items)) in
     let way = made-by xs (a .report) (a .service) (a .class) (a .expiry .0) true true long (sym (told-at .before .before .before .before .before .before .before .marks-fit .ensures) ∙ not-false _ (told-at .before .before .before .before .before .before .if2 .left)) (told .0) in (
       way .0,
-      c .before .before .put-fields .ensures
-          ∙ ap₂ (λ (n : ℕ) (l : List ℕ). frontBytes n (a .report) (a .service) (a .expiry .0) ++ (contentIn (putMid 16 14 xs l) ++ tailBytes (a .class) (a .service))) (told .1) bs
-          ∙ ap (λ (l : List ℕ). frontBytes (groupsOf (a .report)) (a .report) (a .service) (a .expiry .0) ++ (l ++ tailBytes (a .class) (a .service))) (content-put xs its long (length-bytes (listed (a .report .items))))
-          ∙ way .1,
+      c .before .before .put-fields .ensures ∙ parts (a .report) (a .service) (a .class) (a .expiry .0) _ _ xs _ its (told .1) bs long (length-bytes (listed (a .report .items))) ∙ way .1,
     )
 
 pub put-spec : {M : Type 1} → statement M

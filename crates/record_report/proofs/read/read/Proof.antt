@@ -7,12 +7,12 @@ use lib.ListN.{length}
 use borrow.Author.Tests.{eqb-true, not-true, not-false}
 use Rattle.bits.proofs.Choice.{and-left, and-right, chosen, passed-over}
 use Rattle.record.specs.declared.Service.{Service}
-use Rattle.record_report.specs.declared.Answer.the-variants.{Read}
 use Rattle.record.specs.Layout.{recordSize, isRecord, byteAt, groupsIn, serviceIn, expiryIn}
 use Rattle.record.specs.WellFormed.{wellFormed}
-use Rattle.record_report.specs.Reads.{messageIn, readingIn, readingOf}
 use Rattle.record.proofs.AsRecord.{as-it-is}
 use Rattle.record.proofs.Ranges.{groups-range}
+use Rattle.record_report.specs.declared.Answer.the-variants.{Read}
+use Rattle.record_report.specs.Reads.{messageIn, readingIn, readingOf}
 use Rattle.record_report.proofs.Readings.{free-reading, used-reading, answered-read, answered-refused}
 use borrow.Author.Needs.{needs}
 use Rattle.record_report.proofs.read.read.Statement.{statement}

@@ -3,8 +3,8 @@ use mathlib.Core.Path.{refl, sym, _∙_}
 use mathlib.Core.Bool.{true, false}
 use native.Mathlib.Omega.{arith}
 use borrow.Author.Tests.{not-true, not-false}
-use Rattle.table.specs.Steps.{minuteUnfit}
 use Rattle.lent.proofs.Lents.{table-whole}
+use Rattle.checks.specs.Checks.{minuteUnfit}
 use Rattle.table.proofs.Takes.{refused-expiry, expiry-by, accepted-expiry}
 use borrow.Author.Needs.{needs}
 use Rattle.table.proofs.Table.expire.Statement.{statement}

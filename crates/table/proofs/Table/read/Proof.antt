@@ -11,9 +11,9 @@ use Rattle.record_report.specs.Reads.{readingIn, readingOf}
 use Rattle.record_report.proofs.Readings.{fit-reading}
 use Rattle.lent.specs.Records.{records}
 use Rattle.lent.specs.Table.{tableFits}
-use Rattle.table.specs.Read.{recordAt}
 use Rattle.lent.proofs.Passes.{nth, part-is, length-nth}
 use Rattle.lent.proofs.Lents.{table-records, chunk-at, all-at}
+use Rattle.table.specs.Read.{recordAt}
 use borrow.Author.Needs.{needs}
 use Rattle.table.proofs.Table.read.Statement.{statement}
 use Rattle.table.proofs.Table.read.Tie as tie

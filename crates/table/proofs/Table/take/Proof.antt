@@ -3,7 +3,8 @@ use mathlib.Core.Path.{sym, ap, _∙_}
 use lib.IntN.{ℤ}
 use mir.Syntax.{w8}
 use mir.ValLaws.{toZ-ofZ}
-use Rattle.table.specs.Take.{checkRefusal, takeStep, takeTable}
+use Rattle.checks.specs.Checks.{checkRefusal}
+use Rattle.table.specs.Take.{takeStep, takeTable}
 use Rattle.table.proofs.Takes.{refused-check}
 use borrow.Author.Needs.{needs}
 use Rattle.table.proofs.Table.take.Statement.{statement}

@@ -16,14 +16,15 @@ use Rattle.clock.specs.Answers.{minuteOf}
 use Rattle.record.specs.declared.Key.{Key}
 use Rattle.record.specs.Matching.{matching}
 use Rattle.record_report.specs.Made.{recordOf, canMake}
-use Rattle.table.specs.declared.Arrival.{Arrival}
-use Rattle.table.specs.declared.Answer.the-variants.{Freed, Stored, Refused}
 use Rattle.lent.specs.Catalogue.{typeOf}
-use Rattle.table.specs.Events.{entryFor, kindFor}
-use Rattle.table.specs.Steps.{step, expiredIn, afterMatching, matchedIn, placeIn, noRoom, afterStoring}
-use Rattle.table.specs.Take.{locationOf, expiryFor}
 use Rattle.lent.proofs.Lents.{lent-whole}
-use Rattle.table.proofs.Checked.{Checked, checked, event-inside, life-inside, expiry-is, can-make, kinds}
+use Rattle.checks.specs.declared.Arrival.{Arrival}
+use Rattle.checks.specs.Events.{entryFor, kindFor, expiryFor}
+use Rattle.checks.specs.Checks.{locationOf}
+use Rattle.checks.proofs.Checked.{Checked, checked, event-inside, life-inside, expiry-is, kinds}
+use Rattle.table.specs.declared.Answer.the-variants.{Freed, Stored, Refused}
+use Rattle.table.specs.Steps.{step, expiredIn, afterMatching, matchedIn, placeIn, noRoom, afterStoring}
+use Rattle.table.proofs.Storable.{can-make}
 use Rattle.table.proofs.Takes.{null-way, cancelling-way, ordinary-way}
 use borrow.Author.Needs.{needs}
 use Rattle.table.proofs.take.take_checked.Statement.{statement}
