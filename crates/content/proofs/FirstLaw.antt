@@ -2,6 +2,7 @@
 use Prim.Native.Nat.{ℕ, suc, _+_, _≤_, _<_}
 use native.Mathlib.Omega.{arith}
 use mathlib.Core.Path.{_≡_, refl, sym, ap, _∙_}
+use mathlib.Core.Logic.{_⊎_, inl, inr}
 use mathlib.Core.Bool.{Bool, true, false}
 use mathlib.Core.List.{List}
 use lib.ListN.{length, take, drop, length-drop}
@@ -60,25 +61,36 @@ first-shorter l i rest e =
     let n = width (i .label) in
     omega (arith, length-drop labelWidth l, length-drop n (drop labelWidth l), ap length (t .rested), t .long)
 
-positive : (k n : ℕ) → unfit (suc k) ≡ unfit n → 0 < n
-positive k n e = let z : suc k ≡ n = cc in omega arith
+-- bits of the item are missing (7), or it has label 15 (8)
+abbrev pub Refusal : ℕ → Type 0
+Refusal n = (n ≡ 7) ⊎ (n ≡ 8)
 
--- a refusal has a number, 7 or 8
-pub first-number : (l : List Bool) (n : ℕ) → first l ≡ unfit n → 0 < n
+same-unfit : (k n : ℕ) → unfit k ≡ unfit n → n ≡ k
+same-unfit k n e = cc
+
+pub first-refusal : (l : List Bool) (n : ℕ) → first l ≡ unfit n → Refusal n
 unfolding first labelled valued
-first-number l n e =
+first-refusal l n e =
     let label = val (take labelWidth l) in
     let tail = drop labelWidth l in
     either (ltb (length l) labelWidth)
-    (λ h. positive 6 n (rw (h, first) at e))
+    (λ h. inl (same-unfit 7 n (rw (h, first) at e)))
     (λ h.
     let e₁ : labelled label tail ≡ unfit n = rw (h, first) at e in
     either (eqb label sublabelled)
-    (λ k. positive 7 n (rw (k, labelled) at e₁))
+    (λ k. inr (same-unfit 8 n (rw (k, labelled) at e₁)))
     (λ k.
     let e₂ : valued label tail ≡ unfit n = rw (k, labelled) at e₁ in
     either (ltb (length tail) (width label))
-    (λ m. positive 6 n (rw (m, valued) at e₂))
+    (λ m. inl (same-unfit 7 n (rw (m, valued) at e₂)))
     (λ m.
     let e₃ : item (record { label = label; value = val (take (width label) tail) }) (drop (width label) tail) ≡ unfit n = rw (m, valued) at e₂ in
     absurd (unfit-is-no-item (sym e₃)))))
+
+-- so it has a number
+pub first-number : (l : List Bool) (n : ℕ) → first l ≡ unfit n → 0 < n
+first-number l n e = positive (first-refusal l n e)
+  where
+    positive : Refusal n → 0 < n
+    positive (inl s) = omega arith
+    positive (inr s) = omega arith

@@ -14,3 +14,4 @@ pub mod Reader
 pub mod WidthRuns
 pub mod Prepending
 pub mod PackedIsRead
+pub mod Numbers

@@ -14,12 +14,13 @@ use Rattle.content.specs.declared.items.Items.{Items}
 use Rattle.content.specs.declared.rest.Taken.{Taken}
 use Rattle.content.specs.declared.rest.Taken.the-variants as taken
 use Rattle.content.specs.declared.read.Reading as read
+use Rattle.content.specs.declared.read.ReadAnswer.{ReadAnswer}
 use Rattle.content.specs.declared.read.ReadAnswer.the-variants as readAnswer
 use Rattle.content.specs.declared.pack.Packed.{Packed}
 use Rattle.content.specs.declared.pack.PackAnswer.{PackAnswer}
 use Rattle.content.specs.declared.pack.PackAnswer.the-variants as packAnswer
 
--- what taking one item answers
+-- what taking one item answers: each case's values, or the refusal's number
 unfoldable pub firstOf : Taken → First
 firstOf (taken.Item i rest) = item i (remaining rest)
 firstOf (taken.Refused n) = unfit n
@@ -60,7 +61,15 @@ packedIf false its = unpacked 9
 unfoldable pub packedOf : Items → Packed
 packedOf s = packedIf (wellPlaced s && writable (listed s)) (listed s)
 
--- the number of bits that the packer tells, 0 on a refusal
+-- what each answer tells: the refusal's number, 0 where there is none, and of the packer's the number of bits, 0 on a refusal
+abbrev pub readRefusal : ReadAnswer → ℕ
+readRefusal readAnswer.Read = 0
+readRefusal (readAnswer.Refused n) = n
+
+abbrev pub packRefusal : PackAnswer → ℕ
+packRefusal (packAnswer.Packed n) = 0
+packRefusal (packAnswer.Refused n) = n
+
 unfoldable pub bitsPacked : PackAnswer → ℕ
 bitsPacked (packAnswer.Packed n) = n
 bitsPacked (packAnswer.Refused n) = 0

@@ -29,7 +29,8 @@ impl Rest {
         ensures { λ r. ⌜ r ≡ allZero (remaining self) ⌝ }
     {
         let bits = self.bits;
-        bits.starts_zero(self.left)
+        let left = self.left;
+        bits.starts_zero(left)
     }
 
     // The first w bits as a number.

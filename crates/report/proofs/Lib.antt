@@ -5,3 +5,4 @@ pub mod Multi
 pub mod Kept
 pub mod OwnParts
 pub mod Outcomes
+pub mod Numbers

@@ -1,7 +1,7 @@
 -- Laws of a step: by the kind of the word, and of a later group by its turn.
 use Prim.Native.Nat.{ℕ, suc}
 use mathlib.Core.Path.{_≡_, refl, ap, _∙_}
-use mathlib.Core.Bool.{false}
+use mathlib.Core.Bool.{Bool, false, cond, _&&_}
 use mathlib.Core.List.{List, [], _∷_, _++_}
 use lib.Dec.{eqb}
 use borrow.Author.Tests.{eq-eqb, ne-eqb}
@@ -23,7 +23,8 @@ module _ {R : Type 0} (read : ReadsMulti R) where
   pub foreign-strays : (ci : ℕ) (s : State) → Foreign ci s → (second gsi c : ℕ) → later read s ci second gsi c ≡ strayed
   unfolding later
   foreign-strays ci empty h second gsi c = refl
-  foreign-strays ci (started index head last contents) h second gsi c = rw (ne-eqb index ci h)
+  foreign-strays ci (started index head last contents) h second gsi c =
+      ap (λ (b : Bool). cond (b && inTurn last contents second gsi) (taken read ci head gsi (contents ++ c ∷ [])) strayed) (ne-eqb index ci h)
 
   -- one without the mark as the first of its message
   pub unmarked-strays : (ci : ℕ) (head : Head) (gsi c : ℕ) → later read (started ci head 0 []) ci 0 gsi c ≡ strayed
@@ -33,7 +34,8 @@ module _ {R : Type 0} (read : ReadsMulti R) where
   -- one after a gap
   pub gap-strays : (ci : ℕ) (head : Head) (last d : ℕ) (contents : List ℕ) (gsi c : ℕ) → (last ≡ suc gsi → ⊥) → later read (started ci head last (d ∷ contents)) ci 0 gsi c ≡ strayed
   unfolding later inTurn
-  gap-strays ci head last d contents gsi c h = rw (eq-eqb ci ci refl, ne-eqb last (suc gsi) h)
+  gap-strays ci head last d contents gsi c h =
+      ap (λ (b : Bool). cond (eqb ci ci && b) (taken read ci head gsi ((d ∷ contents) ++ c ∷ [])) strayed) (ne-eqb last (suc gsi) h) ∙ rw (eq-eqb ci ci refl)
 
   -- one in its turn
   pub in-turn : (ci : ℕ) (head : Head) (gsi d : ℕ) (contents : List ℕ) (c : ℕ) → later read (started ci head (suc gsi) (d ∷ contents)) ci 0 gsi c ≡ taken read ci head gsi (d ∷ (contents ++ c ∷ []))

@@ -1,4 +1,5 @@
 -- By its turn, and by whether it is the last.
+use native.Mathlib.Omega.{arith}
 use mathlib.Core.Path.{sym, ap, _∙_}
 use mathlib.Core.Bool.{Bool, _&&_}
 use lib.Dec.{eqb}
@@ -19,7 +20,7 @@ extended-requires c κs =
     let start = c .before .before .before .before in
     let a = start .args in
     let t = ap (λ (b : Bool). eqb (a .p .ci) (a .ci) && b) (sym (c .before .before .in-turn .ensures)) ∙ c .before .if1 .taken in
-    (room (a .p) (a .second) (a .gsi) (and-right (eqb (a .p .ci) (a .ci)) _ t) (opened (a .p) (start .pre) .count) (c .if2 .left), start .pre)
+    (room (a .p) (a .second) (a .gsi) (and-right (eqb (a .p .ci) (a .ci)) _ t) (opened (a .p) (start .pre) .count) (λ z. omega (arith, c .if2 .left)), start .pre)
 
 returns : tie.Need-returns
 returns c =

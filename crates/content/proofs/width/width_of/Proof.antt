@@ -3,7 +3,7 @@ use Prim.Native.Nat.{ℕ}
 use native.Mathlib.Omega.{arith}
 use mathlib.Core.Path.{refl}
 use Rattle.content.specs.Widths.{widths, width}
-use Rattle.content.proofs.WidthRuns.{width-in}
+use Rattle.content.proofs.WidthRuns.{width-in, no-width}
 use Rattle.content.proofs.width.width_of.Statement.{statement}
 use Rattle.content.proofs.width.width_of.Tie as tie
 
@@ -28,8 +28,7 @@ unfolding widths width
 returns-5 c = (width-in 10 4 16 (c .before .before .before .before .before .args .label) refl (omega arith) (omega arith), omega arith)
 
 returns-6 : tie.Need-returns-6
-unfolding widths width
-returns-6 c = (width-in 14 1 0 (c .before .before .before .before .before .args .label) refl (omega arith) (omega arith), omega arith)
+returns-6 c = (no-width (c .before .before .before .before .before .args .label) (omega arith), omega arith)
 
 pub width-of-spec : {M : Type 1} → statement M
 width-of-spec = tie.close (tie.spec returns returns-2 returns-3 returns-4 returns-5 returns-6)

@@ -13,7 +13,6 @@ use Rattle.content.specs.Packing.{itemFits}
 use Rattle.content.specs.Halves.{bitsOf, contentOf}
 use Rattle.content.specs.declared.pack.Packed.{Packed}
 use Rattle.content.specs.declared.pack.PackAnswer.the-variants as packAnswer
-use Rattle.content.proofs.OneItem.{label-lt}
 use Rattle.content.proofs.Prepending.{prepend-refused, prepend-unfit, prepend-long, prepend-content}
 use Rattle.content.proofs.pack.Packed.prepended.Statement.{statement}
 use Rattle.content.proofs.pack.Packed.prepended.Tie as tie
@@ -31,11 +30,6 @@ returns-2 c =
     let d = c .before .before .before .before in
     let a = d .before .before .args in
     λ its e. c .refused .ensures ∙ prepend-unfit (a .self) its e _ (d .answer .given .1) (a .item) (sym (c .before .before .fits2 .ensures) ∙ not-true _ (c .before .if1 .taken))
-
-width-of-requires : tie.Need-width-of-requires
-width-of-requires c κs =
-    let a = c .before .before .before .before .before .args in
-    label-lt (a .item) (sym (c .before .fits2 .ensures) ∙ not-false _ (c .if1 .left))
 
 returns-3 : tie.Need-returns-3
 returns-3 c =
@@ -66,7 +60,7 @@ prepended-spec =
     (search needs)
     (search needs)
     returns-2
-    width-of-requires
+    (search needs)
     (search needs)
     (search needs)
     (search needs)

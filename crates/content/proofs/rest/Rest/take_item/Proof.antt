@@ -38,12 +38,6 @@ returns-2 c =
     let n = length-remaining s (c .before .before .before .before .pre) in
     (sym (first-sublabelled (remaining s) (omega arith) (c .before .head .result) (c .before .head .ensures) (c .if2 .taken)), omega arith)
 
-width-of-requires : tie.Need-width-of-requires
-width-of-requires c κs =
-    let s = c .before .before .before .before .before .args .self in
-    let n = length-remaining s (c .before .before .before .before .before .pre) in
-    omega (arith, c .before .before .head .ensures, val-take-lt labelWidth (remaining s))
-
 returns-3 : tie.Need-returns-3
 unfolding firstOf leftOf
 returns-3 c =
@@ -88,7 +82,7 @@ take-item-spec =
     cast-label
     returns-2
     (search needs)
-    width-of-requires
+    (search needs)
     returns-3
     (search needs)
     cast-t7
