@@ -12,7 +12,7 @@ use borrow.Author.Tests.{eq-eqb, le-leb}
 use Rattle.bits.specs.Bits.{bits, allZero}
 use Rattle.bits.specs.Fields.{flat, words, unpack, pack}
 use Rattle.bits.specs.Checks.{must, unless}
-use Rattle.bits.proofs.Choice.{chosen, passed-over}
+use Rattle.bits.proofs.Choice.{chosen}
 use Rattle.bits.proofs.Value.{length-bits, zero-bits}
 use Rattle.bits.proofs.Fields.{length-flat, length-words, flat-words, words-front, take-flat, drop-flat}
 use Rattle.bits.proofs.Formats.{length-pack, unpack-pack}
@@ -20,13 +20,13 @@ use Rattle.bits.proofs.Checks.{none, last-check}
 use Rattle.fig.specs.declared.Fig.{Fig}
 use Rattle.fig.specs.declared.Reading.{Reading}
 use Rattle.fig.specs.declared.Reading.the-variants.{Taken, Refused}
-use Rattle.fig_write.specs.declared.Writing.the-variants as writing
 use Rattle.fig_write.specs.declared.Writing.the-variants.{Written}
 use Rattle.fig.specs.Format.{figFormat, wordWidth}
 use Rattle.fig.specs.Read.{fields, figOf, countOf, padding, fieldRefusal, headRefusal, dataRefusal, readData, readFig, wordsAfter}
 use Rattle.fig_write.specs.Write.{figFits, dataLength, figLength, figValues, dataBits, figBytes, writeFig, bytesAfter}
 use Rattle.fig.proofs.Data.{width-bounds}
 use Rattle.fig_write.proofs.Ranges.{each-below, some-words, bits-fit, header-fits}
+use Rattle.fig_write.proofs.Written.{written-fits}
 
 module _ (fig : Fig) (ws : List ℕ) where
   abbrev w : ℕ
@@ -121,22 +121,6 @@ module _ (fig : Fig) (ws : List ℕ) where
     pub words-back : (out : List ℕ) → wordsAfter (Taken fig (length ws)) (drop 2 s) out ≡ ws ++ drop (length ws) out
     unfolding wordsAfter
     words-back out = ap (λ (l : List ℕ). l ++ drop (length ws) out) (ap (words w (length ws)) data-back ∙ words-front w ws (bits left 0) (each-below fig ws fit))
-
--- what is written is in range, and n is its length
-written-fits : (fig : Fig) (ws : List ℕ) (room n : ℕ) → writeFig fig ws room ≡ Written n → (figFits fig ws ≡ true) × (figLength fig (length ws) ≡ n)
-unfolding writeFig
-written-fits fig ws room n e = by-tests (figFits fig ws) (leb (figLength fig (length ws)) room) refl refl
-  where
-    by-tests : (t u : Bool) → figFits fig ws ≡ t → leb (figLength fig (length ws)) room ≡ u → (figFits fig ws ≡ true) × (figLength fig (length ws) ≡ n)
-    by-tests true true f r = let k : Written (figLength fig (length ws)) ≡ Written n = sym (chosen _ _ _ f ∙ chosen _ _ _ r) ∙ e in (f, cc)
-    by-tests true false f r =
-        let k : writing.Refused 15 ≡ Written n = sym (chosen _ _ _ f ∙ passed-over _ _ _ r) ∙ e in
-        let z : _≡_ {A = ℕ} 0 1 = cc in
-        absurd (omega arith)
-    by-tests false u f r =
-        let k : writing.Refused 9 ≡ Written n = sym (passed-over _ _ _ f) ∙ e in
-        let z : _≡_ {A = ℕ} 0 1 = cc in
-        absurd (omega arith)
 
 -- the n cells that a call wrote, read into other cells
 pub way-back : (fig : Fig) (ws out cells : List ℕ) (n : ℕ) → writeFig fig ws (length out) ≡ Written n → length ws ≤ length cells
