@@ -5,7 +5,7 @@ ghost use mathlib.Core.List.{[], _∷_};
 ghost use lib.ListN.{length, drop, getD};
 ghost use Rattle.bits.specs.Bits.{bits, val};
 ghost use Rattle.bits.specs.Fields.{flat, unpack, words};
-ghost use Rattle.drm.specs.Format.{startFormat, headerFormat};
+ghost use Rattle.drm.specs.Format.{startWidth, startFormat, headerWidth, headerFormat, systemWidth};
 ghost use Rattle.drm.specs.Payload.{start, uaFlag, aid, headerAt, header as Payload·header, headerBits, systemWords, wordsAt, unitOf};
 ghost use Rattle.crc.specs.Block.{payload};
 ghost use Rattle.drm.specs.Read.{fieldRefusal, wordsRefusal, payloadRefusal, unitRefusal, taken as Read·taken, readUnit, wordsAfter};
@@ -68,7 +68,7 @@ fn payload_refusal(p: &[u8], room: usize) -> u8
 
 // The refusal of the fields, 0 for none.
 fn field_refusal(start: u64, aid: u64, header: u64) -> u8
-    ensures { λ r. ⌜ r ≡ fieldRefusal (unpack startFormat (bits 6 start)) aid (unpack headerFormat (bits 24 header)) ⌝ }
+    ensures { λ r. ⌜ r ≡ fieldRefusal (unpack startFormat (bits startWidth start)) aid (unpack headerFormat (bits headerWidth header)) ⌝ }
 {
     if start / DataUnit::RFU_WEIGHT % 2 != 0 {
         return 3;
@@ -195,7 +195,7 @@ fn unit_in(p: &[u8]) -> DataUnit
 // Word i of m words of 16 bits from bit at on, 0 for the others.
 fn system_word(p: &[u8], at: usize, m: usize, i: usize) -> u16
     requires { ⌜ (i < m → at + m * 16 ≤ length (now p) * 8) × (i < 3) × (at ≤ 48) ⌝ }
-    ensures { λ r. ⌜ r ≡ getD (words 16 m (drop at (flat 8 (now (p .entry))))) i 0 ⌝ }
+    ensures { λ r. ⌜ r ≡ getD (words systemWidth m (drop at (flat 8 (now (p .entry))))) i 0 ⌝ }
 {
     if i < m {
         bits_at(p, at + i * DataUnit::SYSTEM_WIDTH, DataUnit::SYSTEM_WIDTH) as u16
@@ -206,7 +206,7 @@ fn system_word(p: &[u8], at: usize, m: usize, i: usize) -> u16
 
 // The unit of a start, a header and system words.
 fn unit_of(start: u64, header: u64, first: u16, second: u16, third: u16) -> DataUnit
-    ensures { λ r. ⌜ r ≡ unitOf (unpack startFormat (bits 6 start)) (unpack headerFormat (bits 24 header)) (first ∷ second ∷ third ∷ []) ⌝ }
+    ensures { λ r. ⌜ r ≡ unitOf (unpack startFormat (bits startWidth start)) (unpack headerFormat (bits headerWidth header)) (first ∷ second ∷ third ∷ []) ⌝ }
 {
     DataUnit {
         tmchi: (start / DataUnit::TMCHI_WEIGHT % 2) as u8,

@@ -21,7 +21,7 @@ const ID_WEIGHT: u64 = 0x400_0000;
 
 const TMCHI: u64 = DataUnit::TMCHI_WEIGHT * ID_WEIGHT;
 // The bits of all system words that a unit may have.
-const SYSTEM_WORDS: usize = 48;
+const SYSTEM_BITS: usize = DataUnit::SYSTEM_WORDS as usize * DataUnit::SYSTEM_WIDTH;
 
 // Fills s with the unit.
 pub(crate) fn fill(s: &mut [u8], unit: DataUnit, words: &[u64])
@@ -39,7 +39,7 @@ fn fill_payload(s: &mut [u8], unit: DataUnit, words: &[u64])
     ensures { λ _. ⌜ now (s .exit) ≡ Fields·words 8 (length (now (s .entry))) (payloadBits unit (now (words .entry))) ⌝ }
 {
     let system = unit.system as usize * DataUnit::SYSTEM_WIDTH;
-    let messages = system_number(unit) / pow2(SYSTEM_WORDS - system);
+    let messages = system_number(unit) / pow2(SYSTEM_BITS - system);
     lay(
         s,
         front_width(unit),
