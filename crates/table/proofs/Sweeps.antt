@@ -138,9 +138,6 @@ module _ (f : List ℕ → List ℕ) (keeps : Keeps f) where
     unfolding over records
     length-over = length-joined (length t / recordSize) t fits ∙ omega arith
 
-    pub whole-over : length (over f t) % recordSize ≡ 0
-    whole-over = ap (λ (n : ℕ). n % recordSize) length-over ∙ whole
-
     pub records-over : records (over f t) ≡ map f (records t)
     unfolding records over
     records-over = ap (λ (n : ℕ). chunks (n / recordSize) (over f t)) length-over ∙ chunks-joined (length t / recordSize) t fits

@@ -90,6 +90,7 @@ fn take_checked(
         return take_cancelling(t, minute, key);
     }
     let life = lives[Lent::DURATIONS * entry.duration_type() as usize + report.duration as usize];
+    // The checks leave the clock nothing to refuse.
     let expiry = minute.expiry(lto, life);
     match expiry {
         Expiry::At(end) => take_ordinary(t, last, minute, report, key, end),

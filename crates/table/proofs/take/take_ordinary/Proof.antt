@@ -43,7 +43,7 @@ put-at-requires c κs =
     let start = c .before .before .before .before .before .before .before .before .before .before in
     let pass = c .before .before .before .before .before .before .before .sweep-gone .ensures in (
       ap (λ (u : List ℕ). length u % recordSize) (pass .1) ∙ whole-both (start .args .minute .0) (matching (start .args .key)) (never-free (start .args .key)) (start .args .t .now) (start .pre .0),
-      c .before .before .if1 .left,
+      omega (arith, c .before .before .if1 .left),
       start .pre .1,
     )
 
