@@ -39,6 +39,7 @@ contentsOf its = words groupBits (groups (length (packing its)) - 1) (padded its
 unfoldable pub tailWord : ℕ → ℕ → ℕ → ℕ
 tailWord ci left c = val (pack laterFormat (laterValues ci 0 left c))
 
+-- the groups after the second, one for each content
 unfoldable pub tailWords : ℕ → List ℕ → List ℕ
 tailWords ci [] = []
 tailWords ci (c ∷ cs) = tailWord ci (length cs) c ∷ tailWords ci cs
@@ -52,6 +53,7 @@ laterWords ci (c ∷ cs) = val (pack laterFormat (laterValues ci 1 (length cs) c
 unfoldable pub multiWords : ℕ → Report → List ℕ
 multiWords ci r = val (pack headFormat (firstValues ci (r .head))) ∷ laterWords ci (contentsOf (listed (r .items)))
 
+-- by the report's form
 unfoldable pub wordsBy : Form → ℕ → Report → List ℕ
 wordsBy Single ci r = singleWords r
 wordsBy Multi ci r = multiWords ci r
@@ -72,6 +74,6 @@ bufferAfter ws out = cond (leb (length ws) (length out)) (ws ++ drop (length ws)
 unfoldable pub writeReport : ℕ → Report → ℕ → Writing
 writeReport ci r room = cond (canWrite ci r) (answerFor (wordsOf ci r) room) (Refused 9)
 
--- a refusal leaves the buffer
+-- the buffer after a call; a refusal leaves it
 unfoldable pub wordsAfter : ℕ → Report → List ℕ → List ℕ
 wordsAfter ci r out = cond (canWrite ci r) (bufferAfter (wordsOf ci r) out) out
