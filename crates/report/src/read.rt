@@ -18,9 +18,6 @@ use content::read::ReadAnswer;
 use word::Head;
 
 impl Report {
-    // The most words of a report, and the content bits of all its later groups.
-    pub const WORDS: usize = 5;
-
     // The report that stands where there is none.
     pub fn new() -> Self
         ensures { λ r. ⌜ r ≡ Report·blank ⌝ }
