@@ -15,9 +15,9 @@ use record::test::zero_bits;
 pub fn table_fits(t: &[u8]) -> bool
     ensures { λ b. ⌜ b ≡ tableFits (now (t .entry)) ⌝ }
 {
-    let length = t.len();
-    if (Record::SIZE <= length)
-        & ((length <= Lent::RECORDS * Record::SIZE) & (length % Record::SIZE == 0))
+    let size = t.len();
+    if (Record::SIZE <= size)
+        & ((size <= Lent::RECORDS * Record::SIZE) & (size % Record::SIZE == 0))
     {
         records_fit(t)
     } else {
