@@ -3,3 +3,4 @@ pub mod Fields
 pub mod Overlay
 pub mod Checks
 pub mod Outcome
+pub mod Writers

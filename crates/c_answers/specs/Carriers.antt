@@ -9,15 +9,10 @@ use Rattle.rds.specs.declared.Step.{Step}
 use Rattle.rds.specs.Repeat as repeat
 use Rattle.fig.specs.declared.Reading.{Reading as Fig·Reading}
 use Rattle.fig.specs.Read as fig
-use Rattle.fig_write.specs.declared.Writing.{Writing as Fig·Writing}
-use Rattle.fig_write.specs.Write as figWriting
 use Rattle.drm.specs.declared.Reading.{Reading as Unit·Reading}
 use Rattle.drm.specs.Read as unit
-use Rattle.drm_write.specs.declared.Writing.{Writing as Unit·Writing}
-use Rattle.drm_write.specs.Write as unitWriting
 use Rattle.c_values.specs.declared.runs.PlainRun.{PlainRun}
 use Rattle.c_values.specs.Runs.{runFits, runFrom, runOf}
-use Rattle.c_answers.specs.declared.reports.Written.{Written}
 use Rattle.c_answers.specs.declared.carriers.GroupReading.{GroupReading}
 use Rattle.c_answers.specs.declared.carriers.Received.{Received}
 use Rattle.c_answers.specs.declared.carriers.FigReading.{FigReading}
@@ -40,11 +35,5 @@ received r bytes = cond (runFits r) (receivedBy (repeat.received (runFrom r) byt
 abbrev pub figReading : Fig·Reading → FigReading
 figReading r = record { count = fig.countIn r; fig = fig.figIn r; refusal = fig.refusalIn r }
 
-abbrev pub figWritten : Fig·Writing → Written
-figWritten w = record { count = figWriting.countIn w; refusal = figWriting.refusalIn w }
-
 abbrev pub unitReading : Unit·Reading → UnitReading
 unitReading r = record { count = unit.countIn r; unit = unit.unitIn r; refusal = unit.refusalIn r }
-
-abbrev pub unitWritten : Unit·Writing → Written
-unitWritten w = record { count = unitWriting.countIn w; refusal = unitWriting.refusalIn w }

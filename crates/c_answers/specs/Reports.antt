@@ -2,8 +2,8 @@
 use Prim.Native.Nat.{ℕ}
 use Rattle.report.specs.declared.Report.{Report}
 use Rattle.report.specs.Report.{blank}
-use Rattle.report_write.specs.declared.Writing.{Writing}
-use Rattle.report_write.specs.Answers as writing
+use Rattle.bits.specs.declared.Writing.{Writing}
+use Rattle.bits.specs.Writers as writing
 use Rattle.assembler.specs.declared.Partial.{Partial}
 use Rattle.assembler.specs.declared.Answer.{Answer}
 use Rattle.assembler.specs.declared.Answer.the-variants as answers
@@ -14,8 +14,9 @@ use Rattle.c_values.specs.States.{stateOf}
 use Rattle.c_answers.specs.declared.reports.Written.{Written}
 use Rattle.c_answers.specs.declared.reports.AssemblerAnswer.{AssemblerAnswer}
 
-abbrev pub reportWritten : Writing → Written
-reportWritten w = record { count = writing.countIn w; refusal = writing.refusalIn w }
+-- of words or bytes, by every writer
+abbrev pub writtenBy : Writing → Written
+writtenBy w = record { count = writing.countIn w; refusal = writing.refusalIn w }
 
 -- the report where the answer is one, else the blank one
 unfoldable pub reportBeside : Answer → Report → Report

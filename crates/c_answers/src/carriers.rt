@@ -1,8 +1,7 @@
 // RDS groups, FIGs and data units.
 ghost use mathlib.Core.Path.{_≡_};
 ghost use Rattle.rds.specs.Write.{refusalIn};
-ghost use Rattle.c_answers.specs.Carriers.{groupReading, receivedBy, figReading, figWritten, unitReading, unitWritten};
-use crate::reports::Written;
+ghost use Rattle.c_answers.specs.Carriers.{groupReading, receivedBy, figReading, unitReading};
 use c_values::runs::PlainRun;
 use drm::DataUnit;
 use fig::Fig;
@@ -103,15 +102,6 @@ impl FigReading {
     }
 }
 
-pub fn fig_written(writing: fig_write::Writing) -> Written
-    ensures { λ r. ⌜ r ≡ figWritten writing ⌝ }
-{
-    match writing {
-        fig_write::Writing::Written(count) => Written { count, refusal: 0 },
-        fig_write::Writing::Refused(refusal) => Written { count: 0, refusal },
-    }
-}
-
 // A data unit read, and how many words it carries.
 #[repr(C)]
 pub struct UnitReading {
@@ -136,14 +126,5 @@ impl UnitReading {
                 refusal,
             },
         }
-    }
-}
-
-pub fn unit_written(writing: drm_write::Writing) -> Written
-    ensures { λ r. ⌜ r ≡ unitWritten writing ⌝ }
-{
-    match writing {
-        drm_write::Writing::Written(count) => Written { count, refusal: 0 },
-        drm_write::Writing::Refused(refusal) => Written { count: 0, refusal },
     }
 }

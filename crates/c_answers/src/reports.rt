@@ -1,13 +1,13 @@
 // Reports and the assembler.
 ghost use mathlib.Core.Path.{_≡_};
-ghost use Rattle.c_answers.specs.Reports.{reportWritten, withoutReport, stepAnswer};
+ghost use Rattle.c_answers.specs.Reports.{writtenBy, withoutReport, stepAnswer};
 use assembler::Answer;
 use assembler::Partial;
 use assembler::Step;
+use bits::Writing;
 use c_values::reports::PlainReport;
 use c_values::states::state_of;
 use report::Report;
-use report_write::Writing;
 
 // How many words or bytes were written into the lent buffer.
 #[repr(C)]
@@ -16,12 +16,14 @@ pub struct Written {
     pub refusal: u8,
 }
 
-pub fn report_written(writing: Writing) -> Written
-    ensures { λ r. ⌜ r ≡ reportWritten writing ⌝ }
-{
-    match writing {
-        Writing::Written(count) => Written { count, refusal: 0 },
-        Writing::Refused(refusal) => Written { count: 0, refusal },
+impl Written {
+    pub fn of(writing: Writing) -> Self
+        ensures { λ r. ⌜ r ≡ writtenBy writing ⌝ }
+    {
+        match writing {
+            Writing::Written(count) => Written { count, refusal: 0 },
+            Writing::Refused(refusal) => Written { count: 0, refusal },
+        }
     }
 }
 

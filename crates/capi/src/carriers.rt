@@ -11,13 +11,12 @@ ghost use Rattle.crc.specs.Register.{checkWord};
 ghost use Rattle.crc.specs.Block.{payload};
 ghost use Rattle.drm.specs.Read.{readUnit, wordsAfter as unitWords};
 ghost use Rattle.drm_write.specs.Write.{writeUnit, bytesAfter as unitBytes};
-ghost use Rattle.c_answers.specs.Carriers.{groupReading, received, figReading, figWritten, unitReading, unitWritten};
+ghost use Rattle.c_answers.specs.Carriers.{groupReading, received, figReading, unitReading};
+ghost use Rattle.c_answers.specs.Reports.{writtenBy};
 use c_answers::carriers::FigReading;
 use c_answers::carriers::GroupReading;
 use c_answers::carriers::Received;
 use c_answers::carriers::UnitReading;
-use c_answers::carriers::fig_written;
-use c_answers::carriers::unit_written;
 use c_answers::carriers::write_refusal;
 use c_answers::reports::Written;
 use c_values::runs::PlainRun;
@@ -71,10 +70,10 @@ pub extern "C" fn alertc_fig_read(bytes: &[u8], words: &mut [u64]) -> FigReading
 // Writes a FIG with these words. A field or word out of its range, no words or too many are refused (9), then too small a buffer (15).
 #[no_mangle]
 pub extern "C" fn alertc_fig_write(fig: Fig, words: &[u64], out: &mut [u8]) -> Written
-    ensures { λ r. ⌜ r ≡ figWritten (writeFig fig (now (words .entry)) (length (now (out .entry)))) ⌝ }
+    ensures { λ r. ⌜ r ≡ writtenBy (writeFig fig (now (words .entry)) (length (now (out .entry)))) ⌝ }
     ensures { λ _. ⌜ now (out .exit) ≡ figBytes (writeFig fig (now (words .entry)) (length (now (out .entry)))) fig (now (words .entry)) (now (out .entry)) ⌝ }
 {
-    fig_written(fig_write::write(fig, words, out))
+    Written::of(fig_write::write(fig, words, out))
 }
 
 // Reads a data unit, and its words into the lent ones.
@@ -89,10 +88,10 @@ pub extern "C" fn alertc_drm_read(bytes: &[u8], words: &mut [u64]) -> UnitReadin
 // Writes a data unit with these words. What the rules shut out is refused (9), then too small a buffer (15).
 #[no_mangle]
 pub extern "C" fn alertc_drm_write(unit: DataUnit, words: &[u64], out: &mut [u8]) -> Written
-    ensures { λ r. ⌜ r ≡ unitWritten (writeUnit unit (now (words .entry)) (length (now (out .entry)))) ⌝ }
+    ensures { λ r. ⌜ r ≡ writtenBy (writeUnit unit (now (words .entry)) (length (now (out .entry)))) ⌝ }
     ensures { λ _. ⌜ now (out .exit) ≡ unitBytes (writeUnit unit (now (words .entry)) (length (now (out .entry)))) unit (now (words .entry)) (now (out .entry)) ⌝ }
 {
-    unit_written(drm_write::write(unit, words, out))
+    Written::of(drm_write::write(unit, words, out))
 }
 
 // The check word of DRM data units.

@@ -18,7 +18,7 @@ use Rattle.assembler.specs.Samples.{opened401}
 use Rattle.fig.specs.declared.Reading.the-variants as fig
 use Rattle.fig.specs.Format.{headerLength}
 use Rattle.fig.specs.Read.{readFig, wordsAfter}
-use Rattle.fig_write.specs.declared.Writing.the-variants as fig_write
+use Rattle.bits.specs.declared.Writing.the-variants as fig_write
 use Rattle.fig_write.specs.Write.{writeFig, bytesAfter}
 use Rattle.system.specs.declared.System.the-variants.{Table}
 use Rattle.system.specs.declared.Reading.the-variants as system

@@ -6,7 +6,7 @@ use mathlib.Core.Bool.{Bool, true, _&&_}
 use mathlib.Core.List.{List}
 use lib.ListN.{length}
 use Rattle.drm.specs.declared.DataUnit.{DataUnit}
-use Rattle.drm_write.specs.declared.Writing.the-variants.{Written}
+use Rattle.bits.specs.declared.Writing.the-variants.{Written}
 use Rattle.report.specs.Read.{readReport}
 use Rattle.messages.specs.Whole.{Whole}
 use Rattle.drm_write.specs.Allowed.{Allowed}

@@ -13,7 +13,7 @@ use Rattle.assembler.specs.Advance.{isTaken}
 use Rattle.messages.specs.Messages.{isEmpty, begins, passes, wholeFrom}
 use Rattle.drm.specs.declared.DataUnit as drm
 use Rattle.drm.proofs.Examples.{headed}
-use Rattle.drm_write.specs.declared.Writing.the-variants as written
+use Rattle.bits.specs.declared.Writing.the-variants as written
 use Rattle.drm_write.specs.Write.{bareFits, headedFits, headerFits, fieldsFit, frontWidth, unitFits, canWrite, frontBits, payloadBits, unitBytes, writeUnit, bytesAfter}
 
 -- names what writing computes with

@@ -22,8 +22,8 @@ use Rattle.assembler.specs.declared.Assembler.the-variants.{Empty}
 use Rattle.drm.specs.declared.DataUnit.{DataUnit}
 use Rattle.drm.specs.declared.Reading.{Reading}
 use Rattle.drm.specs.declared.Reading.the-variants.{Taken, Refused}
-use Rattle.drm_write.specs.declared.Writing.the-variants as writing
-use Rattle.drm_write.specs.declared.Writing.the-variants.{Written}
+use Rattle.bits.specs.declared.Writing.the-variants as writing
+use Rattle.bits.specs.declared.Writing.the-variants.{Written}
 use Rattle.drm.specs.Payload.{start, aid, header, wordsAt, countFrom, padding}
 use Rattle.drm.specs.Read.{fieldRefusal, wordsRefusal, payloadRefusal, unitRefusal, taken, readUnit, wordsAfter}
 use Rattle.drm_write.specs.Write.{systemFields, headerFits, frontWidth, lead, payloadLength, unitLength, unitFits, canWrite, frontBits, payloadBits, unitBytes, writeUnit, bytesAfter}

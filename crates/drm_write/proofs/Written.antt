@@ -8,7 +8,7 @@ use lib.Dec.{leb}
 use borrow.Author.Tests.{le-leb, lt-leb}
 use Rattle.bits.proofs.Choice.{and-left, and-right, chosen, passed-over}
 use Rattle.drm.specs.declared.DataUnit.{DataUnit}
-use Rattle.drm_write.specs.declared.Writing.the-variants.{Written, Refused}
+use Rattle.bits.specs.declared.Writing.the-variants.{Written, Refused}
 use Rattle.report.specs.Read.{readReport}
 use Rattle.messages.specs.Messages.{whole}
 use Rattle.drm_write.specs.Write.{unitLength, unitFits, canWrite, unitBytes, writeUnit, bytesAfter}

@@ -8,8 +8,8 @@ use Rattle.bits.specs.Bits.{bits}
 use Rattle.bits.specs.Fields.{flat, words, pack}
 use Rattle.drm.specs.declared.DataUnit.{DataUnit}
 use Rattle.crc.specs.Block.{checkLength, checked}
-use Rattle.drm_write.specs.declared.Writing.{Writing}
-use Rattle.drm_write.specs.declared.Writing.the-variants.{Written, Refused}
+use Rattle.bits.specs.declared.Writing.{Writing}
+use Rattle.bits.specs.declared.Writing.the-variants.{Written, Refused}
 use Rattle.drm.specs.Format.{longest, wordWidth, systemWidth, startWidth, uaAt, headerWidth, startFormat, headerFormat}
 use Rattle.lto.specs.Offset.{ltoField}
 use Rattle.report.specs.Read.{readReport}
@@ -104,12 +104,3 @@ writeUnit u ws room =
 unfoldable pub bytesAfter : Writing → DataUnit → List ℕ → List ℕ → List ℕ
 bytesAfter (Written n) u ws out = unitBytes u ws ++ drop n out
 bytesAfter (Refused n) u ws out = out
-
--- what the answer tells: the number of bytes written, 0 on a refusal, and the refusal's number, 0 where there is none
-abbrev pub countIn : Writing → ℕ
-countIn (Written n) = n
-countIn (Refused n) = 0
-
-abbrev pub refusalIn : Writing → ℕ
-refusalIn (Written n) = 0
-refusalIn (Refused n) = n

@@ -5,16 +5,11 @@ ghost use Rattle.drm_write.specs.Write.{writeUnit, bytesAfter};
 use crate::fill::fill;
 use crate::fits::can_write;
 use crate::fits::unit_length;
+use bits::Writing;
 use drm::DataUnit;
 
 mod fill;
 mod fits;
-
-pub enum Writing {
-    // How many bytes were written.
-    Written(usize),
-    Refused(u8),
-}
 
 // Writes a unit with these user words into the first cells of a buffer. A field out of its range, a unit that is too long and words
 // that are not whole messages are refused (9), then too small a buffer (15); a refusal leaves the buffer as it is.

@@ -20,7 +20,7 @@ use Rattle.bits.proofs.Checks.{none, last-check}
 use Rattle.fig.specs.declared.Fig.{Fig}
 use Rattle.fig.specs.declared.Reading.{Reading}
 use Rattle.fig.specs.declared.Reading.the-variants.{Taken, Refused}
-use Rattle.fig_write.specs.declared.Writing.the-variants.{Written}
+use Rattle.bits.specs.declared.Writing.the-variants.{Written}
 use Rattle.fig.specs.Format.{figFormat, wordWidth}
 use Rattle.fig.specs.Read.{fields, figOf, countOf, padding, fieldRefusal, headRefusal, dataRefusal, readData, readFig, wordsAfter}
 use Rattle.fig_write.specs.Write.{figFits, dataLength, figLength, figValues, dataBits, figBytes, writeFig, bytesAfter}

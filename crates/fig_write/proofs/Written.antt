@@ -14,7 +14,7 @@ use Rattle.bits.proofs.Choice.{chosen, passed-over}
 use Rattle.bits.proofs.Value.{bits-val}
 use Rattle.bits.proofs.Formats.{length-pack}
 use Rattle.fig.specs.declared.Fig.{Fig}
-use Rattle.fig_write.specs.declared.Writing.the-variants.{Written, Refused}
+use Rattle.bits.specs.declared.Writing.the-variants.{Written, Refused}
 use Rattle.fig.specs.Format.{figFormat, wordWidth}
 use Rattle.fig_write.specs.Write.{figFits, dataLength, figLength, figValues, dataBits, figBytes, writeFig, bytesAfter}
 use Rattle.fig_write.proofs.Ranges.{header-fits}

@@ -7,8 +7,8 @@ use lib.Dec.{leb, ltb}
 use Rattle.bits.specs.Bits.{bits}
 use Rattle.bits.specs.Fields.{flat, words, pack}
 use Rattle.fig.specs.declared.Fig.{Fig}
-use Rattle.fig_write.specs.declared.Writing.{Writing}
-use Rattle.fig_write.specs.declared.Writing.the-variants.{Written, Refused}
+use Rattle.bits.specs.declared.Writing.{Writing}
+use Rattle.bits.specs.declared.Writing.the-variants.{Written, Refused}
 use Rattle.fig.specs.Format.{headerLength, figFormat, wordWidth, mostWords}
 
 -- each number is below m
@@ -54,12 +54,3 @@ writeFig fig ws room =
 unfoldable pub bytesAfter : Writing → Fig → List ℕ → List ℕ → List ℕ
 bytesAfter (Written n) fig ws out = figBytes fig ws ++ drop n out
 bytesAfter (Refused n) fig ws out = out
-
--- what the answer tells: the number of bytes written, 0 on a refusal, and the refusal's number, 0 where there is none
-abbrev pub countIn : Writing → ℕ
-countIn (Written n) = n
-countIn (Refused n) = 0
-
-abbrev pub refusalIn : Writing → ℕ
-refusalIn (Written n) = 0
-refusalIn (Refused n) = n

@@ -8,6 +8,7 @@ ghost use Rattle.bits.specs.Bits.{bits, val};
 ghost use Rattle.bits.specs.Fields.{pack, fits, words as Fields·words};
 ghost use Rattle.fig.specs.Format.{figFormat, mostWords};
 ghost use Rattle.fig_write.specs.Write.{allBelow, figFits, dataLength, figValues, dataBits, writeFig, bytesAfter};
+use bits::Writing;
 use bits::bytes::pow2;
 use bits::field::put_bits;
 use bits::run::put_words;
@@ -17,12 +18,6 @@ use fig::Fig;
 const FIXED: u64 = Fig::TYPE * Fig::TYPE_WEIGHT + Fig::EXTENSION;
 // The bits of the header.
 const HEADER_WIDTH: usize = Fig::HEADER * 8;
-
-pub enum Writing {
-    // How many bytes were written.
-    Written(usize),
-    Refused(u8),
-}
 
 // Writes a FIG with these words into the first cells of a buffer. A field or word out of its range, no words or too many are
 // refused (9), then too small a buffer (15); a refusal leaves the buffer as it is.

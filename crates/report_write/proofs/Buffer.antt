@@ -7,7 +7,7 @@ use lib.ListN.{length, drop, set}
 use borrow.Rule.Slice.PartMut.{putMid}
 use borrow.Author.Tests.{le-leb, lt-leb}
 use Rattle.bits.proofs.Choice.{chosen, passed-over}
-use Rattle.report_write.specs.declared.Writing.the-variants.{Written, Refused}
+use Rattle.bits.specs.declared.Writing.the-variants.{Written, Refused}
 use Rattle.report_write.specs.Write.{answerFor, bufferAfter}
 
 -- a word in the first cell

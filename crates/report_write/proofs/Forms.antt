@@ -9,7 +9,7 @@ use Rattle.word.specs.Compose.{isIndex}
 use Rattle.report.specs.declared.Report.{Report}
 use Rattle.report.specs.declared.Form.{Form}
 use Rattle.report.specs.declared.Form.the-variants.{Single, Multi}
-use Rattle.report_write.specs.declared.Writing.the-variants.{Refused}
+use Rattle.bits.specs.declared.Writing.the-variants.{Refused}
 use Rattle.report.specs.Fits.{singleFits, multiFits, fitsBy, reportFits}
 use Rattle.report_write.specs.Write.{indexFits, singleWords, multiWords, wordsBy, wordsOf, canWrite, answerFor, bufferAfter, writeReport, wordsAfter}
 

@@ -33,7 +33,7 @@ use Rattle.transmission.specs.Demand3.{All}
 use Rattle.transmission.proofs.WholeMessage.{wordsIn}
 use Rattle.assembler.specs.OneMessage.{GivesBack}
 use Rattle.assembler.proofs.OneMessage.{one-message}
-use Rattle.report_write.specs.declared.Writing.the-variants.{Written, Refused}
+use Rattle.bits.specs.declared.Writing.the-variants.{Written, Refused}
 use Rattle.report_write.specs.Write.{contentsOf, tailWord, tailWords, laterWords, singleWords, multiWords, wordsBy, wordsOf, canWrite, answerFor, bufferAfter, writeReport, wordsAfter}
 use Rattle.report_write.proofs.Tail.{later-fits}
 use Rattle.report_write.proofs.Multi.{index-lt, first-fits}

@@ -8,7 +8,7 @@ use Rattle.report.specs.declared.Report.{Report}
 use Rattle.report.specs.Read.{readReport}
 use Rattle.messages.specs.Whole.{Whole}
 use Rattle.messages.proofs.Formed.{formed-whole}
-use Rattle.report_write.specs.declared.Writing.the-variants.{Written}
+use Rattle.bits.specs.declared.Writing.the-variants.{Written}
 use Rattle.report_write.specs.Write.{writeReport, wordsAfter}
 use Rattle.report_write.proofs.WayBack.{was-taken, written-words, words-heard, well-formed}
 

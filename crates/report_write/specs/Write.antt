@@ -15,8 +15,8 @@ use Rattle.report.specs.declared.Report.{Report}
 use Rattle.report.specs.declared.Form.{Form}
 use Rattle.report.specs.declared.Form.the-variants.{Single, Multi}
 use Rattle.report.specs.Fits.{reportFits}
-use Rattle.report_write.specs.declared.Writing.{Writing}
-use Rattle.report_write.specs.declared.Writing.the-variants.{Written, Refused}
+use Rattle.bits.specs.declared.Writing.{Writing}
+use Rattle.bits.specs.declared.Writing.the-variants.{Written, Refused}
 
 -- the continuity index: 0 for a single-group report, 1 to 6 for a multi-group one
 unfoldable pub indexFits : Form → ℕ → Bool

@@ -9,6 +9,7 @@ ghost use Rattle.bits.specs.Fields.{words};
 ghost use Rattle.word.specs.Compose.{isIndex};
 ghost use Rattle.report.specs.Fits.{singleFits, multiFits};
 ghost use Rattle.report_write.specs.Write.{indexFits, writeReport, wordsAfter, answerFor, bufferAfter, singleWords, tailWords, multiWords};
+use bits::Writing;
 use content::content::Content;
 use content::pack::pack;
 use report::Form;
@@ -17,12 +18,6 @@ use word::compose::first_number;
 use word::compose::is_index;
 use word::compose::later_number;
 use word::compose::single_number;
-
-// The number of words written, or the refusal's number.
-pub enum Writing {
-    Written(usize),
-    Refused(u8),
-}
 
 // Writes the words of a report with a continuity index, 0 for a single-group report and 1 to 6 for a multi-group one, into the first cells of a
 // buffer. What is not to be written is refused (9), then too small a buffer (15); a refusal leaves the buffer.

@@ -17,7 +17,7 @@ use Rattle.content.specs.Halves.{bitsOf}
 use Rattle.content.specs.Packing.{zeros, groupBits, groups}
 use Rattle.content.specs.Answers.{packedOf, bitsPacked}
 use Rattle.report.specs.declared.Report.{Report}
-use Rattle.report_write.specs.declared.Writing.the-variants.{Written}
+use Rattle.bits.specs.declared.Writing.the-variants.{Written}
 use Rattle.report_write.specs.Write.{laterWords, multiWords}
 use Rattle.report_write.proofs.Buffer.{two-and-more, with-room, no-room}
 use Rattle.report_write.proofs.Tail.{same-word, same-tail, later-fits, moved}
