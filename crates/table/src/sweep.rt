@@ -37,20 +37,20 @@ pub(crate) fn sweep_gone(t: &mut [u8], minute: Utc, key: Key) -> Freed
     ensures { λ _. ⌜ now (t .exit) ≡ afterMatching (minute .0) (matching key) (now (t .entry)) ⌝ }
 {
     let records = t.len() / Record::SIZE;
-    let mut expired = 0;
-    // The matching records are counted down from all: two counts that go the same way are kept in memory as one vector.
-    let mut unmatched = records;
+    // The expired records are counted down from all: two counts that go the same way are kept in memory as one vector.
+    let mut unexpired = records;
+    let mut matched = 0;
     let mut i = 0;
     while i < records {
         let a = i * Record::SIZE;
         let e = a + Record::SIZE;
         let freed = free_gone(&mut t[a..e], minute, key);
-        expired += freed.expired;
-        unmatched -= freed.matched;
+        unexpired -= freed.expired;
+        matched += freed.matched;
         i += 1;
     }
     Freed {
-        expired,
-        matched: records - unmatched,
+        expired: records - unexpired,
+        matched,
     }
 }

@@ -17,15 +17,15 @@ use Rattle.table.proofs.sweep.sweep_gone.Statement.{statement}
 use Rattle.table.proofs.sweep.sweep_gone.Tie as tie
 
 abbrev Inv-loop : tie.InvT-loop
-Inv-loop t₀ minute key n e₀ u₀ i₀ t e u i =
-    (i ≤ n) × (t ≡ swept (freedIf (either (expired (minute .0)) (matching key))) i t₀) × (e ≡ countIf (expired (minute .0)) (chunks i t₀)) × (u + countIf (onlySecond (expired (minute .0)) (matching key)) (chunks i t₀) ≡ n)
+Inv-loop t₀ minute key n u₀ m₀ i₀ t u m i =
+    (i ≤ n) × (t ≡ swept (freedIf (either (expired (minute .0)) (matching key))) i t₀) × (u + countIf (expired (minute .0)) (chunks i t₀) ≡ n) × (m ≡ countIf (onlySecond (expired (minute .0)) (matching key)) (chunks i t₀))
 
 abbrev μ-loop : tie.MeasureT-loop
-μ-loop t₀ minute key n e₀ u₀ i₀ t e u i = n - i
+μ-loop t₀ minute key n u₀ m₀ i₀ t u m i = n - i
 
 loop-holds : tie.Need-loop-holds Inv-loop μ-loop
 unfolding countIf chunks
-loop-holds c = (omega arith, swept-none (freedIf (either (expired (c .before .args .minute .0)) (matching (c .before .args .key)))) (c .before .args .t .now), refl, omega arith)
+loop-holds c = (omega arith, swept-none (freedIf (either (expired (c .before .args .minute .0)) (matching (c .before .args .key)))) (c .before .args .t .now), omega arith, refl)
 
 part-end : tie.Need-part-free-gone-end Inv-loop μ-loop
 part-end c =
@@ -34,8 +34,8 @@ part-end c =
     let p = either (expired (a .minute .0)) (matching (a .key)) in
     omega (arith, ap length (l .inv .1), length-swept (freedIf p) (freed-keeps p) (l .i) (a .t .now) (l .inv .0))
 
-add-expired : tie.Need-add-expired Inv-loop μ-loop
-add-expired c =
+sub-unexpired : tie.Need-sub-unexpired Inv-loop μ-loop
+sub-unexpired c =
     let a = c .before .before .before .before .before .before .before .before .args in
     let l = c .before .before .before .before .before .before .loop in
     let p = expired (a .minute .0) in
@@ -44,8 +44,8 @@ add-expired c =
     let next = counted-next (either p (matching (a .key))) (l .i) (a .t .now) (l .t) h (l .inv .1) p (f .result .expired) (ap (λ (x : Freed). x .expired) (f .ensures .0)) in
     omega (arith, l .inv .2, next .0, next .1)
 
-sub-unmatched : tie.Need-sub-unmatched Inv-loop μ-loop
-sub-unmatched c =
+add-matched : tie.Need-add-matched Inv-loop μ-loop
+add-matched c =
     let a = c .before .before .before .before .before .before .before .before .before .args in
     let l = c .before .before .before .before .before .before .before .loop in
     let p = expired (a .minute .0) in
@@ -63,11 +63,11 @@ loop-again c =
     let q = matching (a .key) in
     let f = c .before .before .before .before .free-gone in
     let h : l .i < length (a .t .now) / recordSize = omega arith in
-    let more = counted-next (either p q) (l .i) (a .t .now) (l .t) h (l .inv .1) (onlySecond p q) (f .result .matched) (ap (λ (x : Freed). x .matched) (f .ensures .0)) in (
+    let gone = counted-next (either p q) (l .i) (a .t .now) (l .t) h (l .inv .1) p (f .result .expired) (ap (λ (x : Freed). x .expired) (f .ensures .0)) in (
       omega arith,
       freed-next (either p q) (l .i) (a .t .now) (l .t) h (l .inv .1) (f .last .0) (f .ensures .1),
-      ap (λ (n : ℕ). n + f .result .expired) (l .inv .2) ∙ counted-next (either p q) (l .i) (a .t .now) (l .t) h (l .inv .1) p (f .result .expired) (ap (λ (x : Freed). x .expired) (f .ensures .0)) .2,
-      omega (arith, l .inv .3, more .0, more .1, more .2),
+      omega (arith, l .inv .2, gone .0, gone .1, gone .2),
+      ap (λ (n : ℕ). n + f .result .matched) (l .inv .3) ∙ counted-next (either p q) (l .i) (a .t .now) (l .t) h (l .inv .1) (onlySecond p q) (f .result .matched) (ap (λ (x : Freed). x .matched) (f .ensures .0)) .2,
     )
 
 same-length : tie.Need-same-length Inv-loop μ-loop
@@ -87,8 +87,8 @@ returns c =
     let q = matching key in
     let l = c .before .loop in
     let e : l .i ≡ length t₀ / recordSize = omega arith in
-    let counted : length t₀ / recordSize - l .unmatched ≡ countIf (onlySecond p q) (chunks (l .i) t₀) = omega (arith, l .inv .3) in (
-      ap₂ {C = Freed} (λ (x y : ℕ). record { expired = x; matched = y }) (l .inv .2 ∙ counted-all p (l .i) t₀ e) (counted ∙ counted-all (onlySecond p q) (l .i) t₀ e ∙ sym (matched-counted m q (never-free key) t₀ (start .pre))),
+    let counted : length t₀ / recordSize - l .unexpired ≡ countIf p (chunks (l .i) t₀) = omega (arith, l .inv .2) in (
+      ap₂ {C = Freed} (λ (x y : ℕ). record { expired = x; matched = y }) (counted ∙ counted-all p (l .i) t₀ e) (l .inv .3 ∙ counted-all (onlySecond p q) (l .i) t₀ e ∙ sym (matched-counted m q (never-free key) t₀ (start .pre))),
       l .inv .1 ∙ swept-all (freedIf (either p q)) (freed-keeps (either p q)) t₀ (start .pre) (l .i) e ∙ sym (both-at-once m q (never-free key) t₀ (start .pre)),
     )
 
@@ -105,11 +105,11 @@ sweep-gone-spec =
     (λ c. omega arith)
     part-end
     (search needs)
-    add-expired
-    sub-unmatched
+    sub-unexpired
+    add-matched
     (λ c. omega arith)
     (λ c. omega arith)
     loop-again
-    (λ c. omega (arith, c .before .loop .inv .3))
+    (λ c. omega (arith, c .before .loop .inv .2))
     same-length
     returns)
