@@ -8,3 +8,4 @@ pub mod Reports
 pub mod Normal
 pub mod WayBack
 pub mod MadeFits
+pub mod Examples
