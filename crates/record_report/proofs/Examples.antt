@@ -19,6 +19,7 @@ use Rattle.record.specs.declared.Key.{Key}
 use Rattle.record.specs.Locations.{locationOf}
 use Rattle.record.specs.Matching.{matching}
 use Rattle.record_report.specs.Made.{recordOf}
+use Rattle.record_report.specs.Normal.{ownTable, normal}
 
 -- a service of country 13 with table 17
 abbrev pub service : Service
@@ -54,6 +55,11 @@ home-bytes = refl
 pub own-bytes : recordOf (report401-at 0xFF51) service 9 160 ≡ bytes401 0x0D 0x11
 unfolding bit num bits val words unpack widths width itemBits packing filled listed fltFields isFlt foreign interRoad bytesOf groupsFor groupsOf locationOf recordOf
 own-bytes = refl
+
+-- which reads back as the report at home
+pub own-normal : normal service (report401-at 0xFF51) ≡ report401
+unfolding bit num bits val unpack fltFields isFlt foreign interRoad ownTable normal
+own-normal = refl
 
 -- what a report is matched by
 abbrev key : Report → Key

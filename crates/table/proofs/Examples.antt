@@ -6,12 +6,12 @@ use lib.IntN.{pos}
 use lib.ListN.{replicate}
 use Rattle.bits.specs.Bits.{bits, bit, num, val, allZero}
 use Rattle.bits.specs.Fields.{flat, fits, unpack}
-use Rattle.content.specs.Stored.{filled, wellPlaced, allZeroItems}
-use Rattle.content.specs.Packing.{zeroItem}
-use Rattle.report.specs.Report.{singleReport}
-use Rattle.location.specs.Flt.{fltFields, isFlt}
-use Rattle.report.specs.InterRoad.{interRoad, itemsAt}
-use Rattle.report.specs.Fits.{singleFits, fitsBy, realFits, reportFits}
+use Rattle.content.specs.Stored.{filled, listed, wellPlaced, allZeroItems}
+use Rattle.content.specs.Packing.{itemBits, packing, allFit, zeroItem, lastZero, packable, writable}
+use Rattle.report.specs.Report.{firstWhere, singleReport, multiReport}
+use Rattle.location.specs.Flt.{fltFields, isFlt, foreign}
+use Rattle.report.specs.InterRoad.{interRoad, itemsAt, realBits, contentOf}
+use Rattle.report.specs.Fits.{singleFits, agrees, itemsFit, contentFits, multiFits, fitsBy, realFits, reportFits}
 use Rattle.clock.specs.Time.{offsetFits}
 use Rattle.record.specs.Layout.{freeRecord}
 use Rattle.record.specs.Locations.{locationOf}
@@ -62,3 +62,15 @@ own-location = refl
 pub foreign-location : takeStep freeRecord catalogue lives 0 (arrival 0xFC00) (pos 0) ≡ step 0 (Refused 12)
 unfolding bit bits flat allZero num widths within rangesFit marked complete restFits wellFormed expired matching freedIf chunks records joined allOf countIf firstOf over countWhere lowestFree sized tableFits entryFits catalogueFits livesFit fits offsetFits filled wellPlaced allZeroItems zeroItem singleFits fitsBy reportFits lentFit isFlt fltFields unpack val locationOf interRoad itemsAt realFits askedFit laterRefusal checkRefusal matches afterMatching matchedIn placeIn takeRefusal takenStep takeStep
 foreign-location = refl
+
+-- an INTER-ROAD report without items at a real location in table 1 of country 13
+abbrev pub inter-road : ℕ → Arrival
+inter-road real = record { report = multiReport (record { direction = 0; extent = 0; event = 0; location = 0xFF41 }) real []; service = record { country = 1; ltn = 1; sid = 1 }; minute = record { 0 = 0 } }
+
+pub real-location : takeStep freeRecord catalogue lives 0 (inter-road 0xFBFF) (pos 0) ≡ step 0 (Stored 0 0 0)
+unfolding bit bits flat allZero num widths within rangesFit marked complete restFits wellFormed expired matching freedIf chunks records joined allOf countIf firstOf over countWhere lowestFree sized tableFits entryFits catalogueFits livesFit fits offsetFits filled wellPlaced allZeroItems zeroItem listed itemBits packing allFit lastZero packable writable firstWhere realBits contentOf agrees itemsFit contentFits multiFits singleFits fitsBy reportFits lentFit isFlt fltFields unpack val foreign locationOf interRoad itemsAt realFits askedFit laterRefusal checkRefusal matches afterMatching matchedIn placeIn takeRefusal takenStep takeStep
+real-location = refl
+
+pub no-real-location : takeStep freeRecord catalogue lives 0 (inter-road 0xFC00) (pos 0) ≡ step 0 (Refused 12)
+unfolding bit bits flat allZero num widths within rangesFit marked complete restFits wellFormed expired matching freedIf chunks records joined allOf countIf firstOf over countWhere lowestFree sized tableFits entryFits catalogueFits livesFit fits offsetFits filled wellPlaced allZeroItems zeroItem listed itemBits packing allFit lastZero packable writable firstWhere realBits contentOf agrees itemsFit contentFits multiFits singleFits fitsBy reportFits lentFit isFlt fltFields unpack val foreign locationOf interRoad itemsAt realFits askedFit laterRefusal checkRefusal matches afterMatching matchedIn placeIn takeRefusal takenStep takeStep
+no-real-location = refl
