@@ -1,7 +1,5 @@
--- The location of a report, and how a report gives it.
-use Prim.Native.Nat.{_<_, _^_}
-use native.Mathlib.Omega.{arith}
-use mathlib.Core.Path.{_≡_, refl, sym, ap, ap₂, _∙_}
+-- The location of a report, by whether it is INTER-ROAD.
+use mathlib.Core.Path.{_≡_, refl, ap₂}
 use mathlib.Core.Bool.{Bool, true, false, _&&_}
 use borrow.Author.Tests.{eq-eqb}
 use Rattle.bits.proofs.Choice.{chosen, passed-over}
@@ -10,7 +8,7 @@ use Rattle.location.specs.Flt.{foreign}
 use Rattle.report.specs.declared.Report.{Report}
 use Rattle.report.specs.InterRoad.{interRoad}
 use Rattle.record.specs.declared.Service.{Service}
-use Rattle.record.specs.Locations.{locationOf, atHome, headLocation, realLocation}
+use Rattle.record.specs.Locations.{locationOf, atHome}
 
 module _ (s : Service) (r : Report) where
   -- the head's location in the service's own table
@@ -25,5 +23,6 @@ module _ (s : Service) (r : Report) where
   unfolding locationOf
   location-home e = passed-over _ _ _ e
 
+  -- which is at home
   pub own-is-home : atHome s homeLocation ≡ true
   own-is-home = ap₂ (λ (a b : Bool). a && b) (eq-eqb (s .country) (s .country) refl) (eq-eqb (s .ltn) (s .ltn) refl)

@@ -8,7 +8,6 @@ use lib.ListN.{length, getD, length-append}
 use lib.Seq.{take-at, getD-append-add}
 use borrow.Author.Tests.{eq-eqb}
 use Rattle.content.specs.Stored.{listed}
-use Rattle.word.specs.declared.Head.{Head}
 use Rattle.location.specs.declared.Location.{Location}
 use Rattle.report.specs.declared.Report.{Report}
 use Rattle.report.specs.Record.{bytesOf, groupsOf}

@@ -1,6 +1,5 @@
 -- A made record gives its location as the report in its normal form does.
-use Prim.Native.Nat.{ℕ, _^_}
-use native.Mathlib.Omega.{arith}
+use Prim.Native.Nat.{ℕ}
 use mathlib.Core.Path.{_≡_, refl, sym, ap, ap₂, subst₂, _∙_}
 use mathlib.Core.Bool.{Bool, true, false, cond, _&&_}
 use Rattle.bits.proofs.Choice.{chosen, passed-over}

@@ -1,10 +1,6 @@
 -- The single-group report, or the items of the content.
-use Prim.Native.Nat.{ℕ}
 use mathlib.Core.Path.{sym, ap, ap₂, _∙_}
-use mathlib.Core.Bool.{Bool}
-use mathlib.Core.List.{List}
 use Rattle.bits.specs.Outcome.{gives}
-use Rattle.word.specs.declared.Head.{Head}
 use Rattle.report.specs.declared.Report.{Report}
 use Rattle.report.specs.Report.{singleReport}
 use Rattle.report.specs.Read.{readItems, outcomeOf}
