@@ -48,11 +48,21 @@ pub fn multi_at(location: u16, count: usize) -> Report {
     report
 }
 
+/// Report `i` of several multi-group ones, with its continuity index.
+fn multi(i: u16) -> (Report, u8) {
+    (multi_at(i, 1 + usize::from(i) % 7), 1 + (i % 6) as u8)
+}
+
+/// Multi-group reports with their continuity indices.
+pub fn multi_reports(count: u16) -> Vec<(Report, u8)> {
+    (0..count).map(multi).collect()
+}
+
 /// Reports with their continuity indices: two multi-group ones to a single one.
 pub fn reports(count: u16) -> Vec<(Report, u8)> {
     let report = |i: u16| match i % 3 {
         0 => (single_at(i), 0),
-        _ => (multi_at(i, 1 + usize::from(i) % 7), 1 + (i % 6) as u8),
+        _ => multi(i),
     };
     (0..count).map(report).collect()
 }

@@ -189,6 +189,10 @@ fn bench(programs: Option<(PathBuf, PathBuf)>) -> io::Result<()> {
         "word through the assembler, with losses",
         &input::rough_words(&words),
     );
+    bench_assembler(
+        "word of multi-group messages through the assembler",
+        &input::words(&input::multi_reports(10_000)),
+    );
     bench_expiry();
     tables::bench();
     match programs {
