@@ -15,6 +15,9 @@ pub const UNIT_BYTES: usize = 128;
 pub const UNIT_WORDS: usize = 27;
 pub const GROUP_BYTES: usize = 8;
 
+/// The code of a foreign location table: country 13, number 1.
+const FLT_CODE: u16 = 0xFF41;
+
 /// Of the rough input one piece in so many is lost, and as many are refused.
 const ROUGH: usize = 5;
 
@@ -56,6 +59,16 @@ fn multi(i: u16) -> (Report, u8) {
 /// Multi-group reports with their continuity indices.
 pub fn multi_reports(count: u16) -> Vec<(Report, u8)> {
     (0..count).map(multi).collect()
+}
+
+/// The same reports as INTER-ROAD ones.
+pub fn inter_road_reports(count: u16) -> Vec<(Report, u8)> {
+    let abroad = |(mut report, ci): (Report, u8)| {
+        report.real_location = report.head.location;
+        report.head.location = FLT_CODE;
+        (report, ci)
+    };
+    (0..count).map(multi).map(abroad).collect()
 }
 
 /// Reports with their continuity indices: two multi-group ones to a single one.
