@@ -351,6 +351,11 @@ impl Trial {
             whole = false;
             self.damage_words(&mut words);
         }
+        let refused = self.random.once_in(8);
+        if refused {
+            whole = false;
+            words.extend(sender::refused_message(&mut self.random).1);
+        }
         let room = if self.random.once_in(6) {
             self.random.index(130)
         } else {
@@ -385,7 +390,7 @@ impl Trial {
             "DRM write: an INTER-ROAD message",
             inter_road && proved.refusal == 0,
         );
-        if unused || beyond || headless {
+        if unused || beyond || headless || refused {
             self.tally.expect(Call::DrmWrite, &input, proved.refusal, 9);
             return;
         }

@@ -311,14 +311,62 @@ pub fn item_parts(items: &[Item]) -> Vec<u32> {
     parts_of(bits)
 }
 
-/// The parts that a multi-group report takes.
-pub fn parts(report: &Report) -> Vec<u32> {
+/// The content of a multi-group report.
+fn content(report: &Report) -> Bits {
     let mut bits = Bits::default();
     if is_inter_road(report) {
         bits.add(report.real_location, REAL_BITS);
     }
     bits.add_items(&report.items[..report.item_count]);
-    parts_of(bits)
+    bits
+}
+
+/// The parts that a multi-group report takes.
+pub fn parts(report: &Report) -> Vec<u32> {
+    parts_of(content(report))
+}
+
+/// The words of a multi-group message.
+fn words_of(head: Head, ci: u8, parts: &[u32]) -> Vec<u64> {
+    let mut words = vec![first_word(ci, head)];
+    words.extend(parts.iter().enumerate().map(|(i, &part)| {
+        let gsi = parts.len() - 1 - i;
+        later_word(ci, u8::from(i == 0), gsi as u8, part)
+    }));
+    words
+}
+
+/// The head and the words of a message whose content is refused after some items, and the refusal.
+pub fn refused_message(random: &mut Random) -> (Head, Vec<u64>, u8) {
+    let report = random_multi(random);
+    let mut bits = content(&report);
+    let groups = parts(&report).len();
+    let mut left = 28 * groups - bits.0.len();
+    if left == 0 && groups < 4 {
+        left = 28;
+    }
+    // Labels with a value that does not fit.
+    let long = |label: &usize| 4 + WIDTHS[*label] as usize > left;
+    let long: Vec<_> = (1..WIDTHS.len()).filter(long).collect();
+    let refusal = match left {
+        0 => return refused_message(random),
+        1..4 => {
+            bits.add(1 + random.below((1 << left) - 1), left);
+            7
+        }
+        _ if long.is_empty() || random.once_in(2) => {
+            bits.add(15_u8, 4);
+            bits.add(random.bits(left as u32 - 4), left - 4);
+            8
+        }
+        _ => {
+            bits.add(random.pick(&long) as u64, 4);
+            bits.add(random.bits(left as u32 - 4), left - 4);
+            7
+        }
+    };
+    let words = words_of(report.head, random.ci(), &parts_of(bits));
+    (report.head, words, refusal)
 }
 
 /// A message: its report and its words.
@@ -383,12 +431,7 @@ impl Message {
     pub fn multi(report: Report, ci: u8, spare: usize) -> Self {
         let mut parts = parts(&report);
         parts.resize((parts.len() + spare).min(4), 0);
-        let mut words = vec![first_word(ci, report.head)];
-        let count = parts.len();
-        words.extend(parts.iter().enumerate().map(|(i, &part)| {
-            let gsi = count - 1 - i;
-            later_word(ci, u8::from(i == 0), gsi as u8, part)
-        }));
+        let words = words_of(report.head, ci, &parts);
         Self { ci, report, words }
     }
 
