@@ -42,9 +42,9 @@ pub record Read (h : Head) (l : List Bool) (r : Report) : Type 0 where
   pub reading : content (drop (itemsAt Multi h) l) ≡ gives its
   pub is : r ≡ multiReport h (val (take (itemsAt Multi h) l)) its
 
-pub was-read : (h : Head) (l : List Bool) (r : Report) → readBits h l ≡ gives r → Read h l r
+pub message-read : (h : Head) (l : List Bool) (r : Report) → readBits h l ≡ gives r → Read h l r
 unfolding readItems
-was-read h l r e =
+message-read h l r e =
     either (contentLength (length l))
     (λ w. by-reading w (content (drop (itemsAt Multi h) l)) refl (sym (whole-read h l w) ∙ e))
     (λ f. absurd (refused-gives-none (sym (whole-refused h l f) ∙ e)))
