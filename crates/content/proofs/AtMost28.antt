@@ -9,7 +9,7 @@ use Rattle.bits.specs.Bits.{bit, num, bits, val, allZero}
 use Rattle.bits.specs.Outcome.{gives}
 use Rattle.content.specs.Widths.{widths, width}
 use Rattle.content.specs.Items.{valued, labelled, first, andThen, readBy, itemsWithin, items}
-use Rattle.content.specs.Content.{contentLength, content}
+use Rattle.content.specs.Content.{content}
 use Rattle.content.specs.Packing.{itemBits, packing, longest}
 use Rattle.content.specs.Stored.{limit}
 use Rattle.content.specs.declared.item.Item.{Item}
@@ -24,5 +24,5 @@ abbrev separator : Item
 separator = record { label = 14; value = 0 }
 
 pub reached-28 : content (packing (replicate 28 separator)) ≡ gives (replicate 28 separator)
-unfolding bit num bits val allZero widths width valued labelled first andThen readBy itemsWithin items contentLength content itemBits packing
+unfolding bit num bits val allZero widths width valued labelled first andThen readBy itemsWithin items content itemBits packing
 reached-28 = refl

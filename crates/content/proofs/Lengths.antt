@@ -11,25 +11,16 @@ use borrow.Author.Tests.{eqb-true, leb-true, leb-false, le-leb, lt-leb}
 use Rattle.bits.specs.Outcome.{refused}
 use Rattle.bits.proofs.Choice.{either}
 use Rattle.content.specs.Items.{items}
-use Rattle.content.specs.Content.{contentLength, content, contentPart}
+use Rattle.content.specs.Content.{contentLength, content}
 use Rattle.content.specs.Packing.{longest, groupBits, room}
 
-pub content-items : (l : List Bool) → contentLength (length l) ≡ true → content l ≡ items l
+pub content-items : (l : List Bool) → length l ≤ longest → content l ≡ items l
 unfolding content
-content-items l e = rw (e, content)
+content-items l h = rw (le-leb (length l) longest h, content)
 
-pub content-refused : (l : List Bool) → contentLength (length l) ≡ false → content l ≡ refused 1
+pub content-refused : (l : List Bool) → longest < length l → content l ≡ refused 1
 unfolding content
-content-refused l e = rw (e, content)
-
--- a part of content, and that a whole content is one
-pub part-items : (l : List Bool) → length l ≤ longest → contentPart l ≡ items l
-unfolding contentPart
-part-items l h = rw (le-leb (length l) longest h, contentPart)
-
-pub part-refused : (l : List Bool) → longest < length l → contentPart l ≡ refused 1
-unfolding contentPart
-part-refused l h = rw (lt-leb (length l) longest h, contentPart)
+content-refused l h = rw (lt-leb (length l) longest h, content)
 
 contentLength-groups : (k : ℕ) → 0 < k → k ≤ 4 → contentLength (groupBits * k) ≡ true
 unfolding contentLength
@@ -54,9 +45,6 @@ groups-of m c =
 
 pub contentLength-le : (m : ℕ) → contentLength m ≡ true → m ≤ longest
 contentLength-le m c = let g = groups-of m c in omega arith
-
-pub whole-is-part : (l : List Bool) → contentLength (length l) ≡ true → contentPart l ≡ content l
-whole-is-part l c = part-items l (contentLength-le (length l) c) ∙ sym (content-items l c)
 
 -- 128 bits are cut to a content length exactly if it is one
 pub contentLength-take : (n : ℕ) (l : List Bool) → length l ≡ 128 → contentLength (length (take n l)) ≡ contentLength n

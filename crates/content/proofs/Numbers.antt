@@ -6,12 +6,13 @@ use mathlib.Core.Logic.{_⊎_, inl, inr}
 use mathlib.Core.Bool.{Bool, true, false, cond, _&&_}
 use mathlib.Core.List.{List, []}
 use lib.ListN.{length}
+use lib.Dec.{leb}
 use Rattle.bits.specs.Bits.{allZero}
 use Rattle.bits.specs.Outcome.{gives, refused}
 use Rattle.bits.proofs.Outcomes.{refused-gives-none}
 use Rattle.content.specs.Items.{First, item, unfit, first, Reading, prepend, andThen, readBy, itemsWithin, items}
-use Rattle.content.specs.Content.{contentLength, content}
-use Rattle.content.specs.Packing.{writable}
+use Rattle.content.specs.Content.{content}
+use Rattle.content.specs.Packing.{longest, writable}
 use Rattle.content.specs.Stored.{listed, wellPlaced}
 use Rattle.content.specs.Answers.{readingOf, readRefusal, packed, unpacked, packedIf, packedOf, packRefusal}
 use Rattle.content.specs.declared.item.Item.{Item}
@@ -42,7 +43,7 @@ items-refusal (suc k) l n e = by-bits (allZero l) (items-refusal k) e
 -- reading: 0 where content is read; 1 for its length, 7 or 8 for an item
 pub read-numbers : (l : List Bool) → let n = readRefusal (readingOf (content l) .answer) in (n ≡ 0) ⊎ ((n ≡ 1) ⊎ Refusal n)
 unfolding readingOf content items
-read-numbers l = by-length (contentLength (length l))
+read-numbers l = by-length (leb (length l) longest)
   where
     by-items : (x : Reading) → items l ≡ x → let n = readRefusal (readingOf x .answer) in (n ≡ 0) ⊎ ((n ≡ 1) ⊎ Refusal n)
     by-items (gives its) h = inl refl

@@ -3,10 +3,11 @@ use Prim.Native.Nat.{ℕ, zero, suc, _+_, _-_, _≤_, _<_}
 use native.Mathlib.Omega.{arith}
 use mathlib.Core.Path.{_≡_, refl, sym, ap, ap₂, subst, _∙_}
 use mathlib.Core.Bool.{Bool, true, false, _&&_, not, and-true}
-use mathlib.Core.List.{List, [], _∷_, _++_}
+use mathlib.Core.List.{List, [], _∷_, _++_, append-assoc}
 use lib.ListN.{length, take, drop, length-append}
+use lib.Dec.{leb}
 use lib.Seq.{take-append-add, drop-append-add}
-use borrow.Author.Tests.{le-leb}
+use borrow.Author.Tests.{leb-true, leb-false, le-leb}
 use Rattle.bits.specs.Bits.{allZero}
 use Rattle.bits.proofs.Value.{allZero-append}
 use Rattle.bits.specs.Outcome.{gives, refused}
@@ -19,7 +20,7 @@ use Rattle.content.specs.declared.item.Item.{Item}
 use Rattle.content.proofs.ItemsLaw.{items-zero, items-unfit, items-item}
 use Rattle.content.proofs.FirstLaw.{first-shorter}
 use Rattle.content.proofs.Zeros.{zeros-of, take-zeros, allZero-drop}
-use Rattle.content.proofs.Lengths.{content-items, content-refused, contentLength-le, room-enough, room-fewest}
+use Rattle.content.proofs.Lengths.{content-items, content-refused, room-enough, room-fewest}
 use Rattle.content.proofs.OneItem.{first-fits, first-bits-front, allZero-itemBits}
 use Rattle.content.proofs.Packings.{packing-append}
 
@@ -95,25 +96,29 @@ items-writable l its short h =
     let e = length-packed l its p in
     ap₂ (λ (a b : Bool). a && b) (ap₂ _&&_ (p .fit) (le-leb (length (packing its)) longest (omega arith))) (ap not (p .last))
 
--- what a whole content holds is written as that content, cut to the fewest groups
 module _ (l : List Bool) (its : List Item) (h : content l ≡ gives its) where
-  abbrev n : ℕ
-  n = length (packing its)
-
-  whole : contentLength (length l) ≡ true
-  whole = either (contentLength (length l)) (λ e. e) (λ e. absurd (refused-gives-none (sym (content-refused l e) ∙ h)))
-
   pub content-short : length l ≤ longest
-  content-short = contentLength-le (length l) whole
+  content-short = either (leb (length l) longest) (λ e. leb-true (length l) longest e) (λ e. absurd (refused-gives-none (sym (content-refused l (leb-false (length l) longest e)) ∙ h)))
 
   pub content-holds : items l ≡ gives its
-  content-holds = sym (content-items l whole) ∙ h
+  content-holds = sym (content-items l content-short) ∙ h
+
+-- what a whole content holds after bits p is written as that content, cut to the fewest groups
+module _ (p l : List Bool) (its : List Item) (h : items l ≡ gives its) (whole : contentLength (length (p ++ l)) ≡ true) where
+  abbrev n : ℕ
+  n = length (p ++ packing its)
 
   found : PackedIn l its
-  found = packed-in l its content-holds
+  found = packed-in l its h
 
-  inside : room n ≤ length l
-  inside = room-fewest n (length l) whole (let e = length-packed l its found in omega arith)
+  all-bits : p ++ l ≡ (p ++ packing its) ++ found .spare
+  all-bits = ap (λ (x : List Bool). p ++ x) (found .bits) ∙ sym (append-assoc p (packing its) (found .spare))
+
+  length-all : length (p ++ l) ≡ n + length (found .spare)
+  length-all = ap length all-bits ∙ length-append (p ++ packing its) (found .spare)
+
+  inside : room n ≤ length (p ++ l)
+  inside = room-fewest n (length (p ++ l)) whole (let e = length-all in omega arith)
 
   spare-zeros : found .spare ≡ zeros (length (found .spare))
   spare-zeros = zeros-of (found .spare) (found .zero)
@@ -121,17 +126,17 @@ module _ (l : List Bool) (its : List Item) (h : content l ≡ gives its) where
   room-split : n + (room n - n) ≡ room n
   room-split = let r = room-enough n in omega arith
 
-  pub read-is-written : padded its ≡ take (room n) l
+  pub read-is-written : padded (p ++ packing its) ≡ take (room n) (p ++ l)
   unfolding padded
   read-is-written =
-      let e = length-packed l its found in
+      let e = length-all in
       let m = inside in
-      sym (ap₂ take (sym room-split) (found .bits)
-      ∙ take-append-add (packing its) (found .spare) (room n - n)
-      ∙ ap (λ (z : List Bool). packing its ++ take (room n - n) z) spare-zeros
-      ∙ ap (λ (z : List Bool). packing its ++ z) (take-zeros (room n - n) (length (found .spare)) (omega arith)))
+      sym (ap₂ take (sym room-split) all-bits
+      ∙ take-append-add (p ++ packing its) (found .spare) (room n - n)
+      ∙ ap (λ (z : List Bool). (p ++ packing its) ++ take (room n - n) z) spare-zeros
+      ∙ ap (λ (z : List Bool). (p ++ packing its) ++ z) (take-zeros (room n - n) (length (found .spare)) (omega arith)))
 
-  pub spare-is-zero : allZero (drop (room n) l) ≡ true
+  pub spare-is-zero : allZero (drop (room n) (p ++ l)) ≡ true
   spare-is-zero =
-      ap allZero (ap₂ drop (sym room-split) (found .bits) ∙ drop-append-add (packing its) (found .spare) (room n - n))
+      ap allZero (ap₂ drop (sym room-split) all-bits ∙ drop-append-add (p ++ packing its) (found .spare) (room n - n))
       ∙ allZero-drop (room n - n) (found .spare) (found .zero)

@@ -1,10 +1,11 @@
 -- What is written is read: the content of writable items holds them.
 use Prim.Native.Nat.{ℕ, _+_, _-_, _≤_}
 use native.Mathlib.Omega.{arith}
-use mathlib.Core.Path.{_≡_, ap, _∙_}
+use mathlib.Core.Path.{_≡_, refl, ap, _∙_}
 use mathlib.Core.Bool.{Bool, true, false, not}
-use mathlib.Core.List.{List, [], _∷_, _++_}
-use lib.ListN.{length, length-append, length-replicate}
+use mathlib.Core.List.{List, [], _∷_, _++_, append-assoc}
+use lib.ListN.{length, take, drop, length-append, length-replicate, length-drop}
+use lib.Seq.{take-at, drop-at}
 use lib.Dec.{leb}
 use borrow.Author.Tests.{leb-true, not-true}
 use Rattle.bits.specs.Bits.{allZero}
@@ -47,18 +48,36 @@ module _ (its : List Item) (w : writable its ≡ true) where
   unfolding writable
   writable-last = not-true (lastZero its) (and-right (packable its) (not (lastZero its)) w)
 
-pub length-padded : (its : List Item) → length (padded its) ≡ room (length (packing its))
+pub length-padded : (l : List Bool) → length (padded l) ≡ room (length l)
 unfolding padded
-length-padded its =
-    let n = length (packing its) in
+length-padded l =
+    let n = length l in
     let h = room-enough n in
     let e : n + (room n - n) ≡ room n = omega arith in
-    length-append (packing its) (zeros (room n - n)) ∙ ap (λ (m : ℕ). n + m) (length-replicate (room n - n) false) ∙ e
+    length-append l (zeros (room n - n)) ∙ ap (λ (m : ℕ). n + m) (length-replicate (room n - n) false) ∙ e
 
-pub written-is-read : (its : List Item) → writable its ≡ true → content (padded its) ≡ gives its
-unfolding padded
-written-is-read its w =
-    let n = length (packing its) in
-    let e : contentLength (length (padded its)) ≡ true = ap contentLength (length-padded its) ∙ room-length n (packable-short its (writable-packable its w)) in
-    content-items (padded its) e
-    ∙ packing-read its (zeros (room n - n)) (packable-fits its (writable-packable its w)) (writable-last its w) (allZero-zeros (room n - n))
+-- padded bits of at most five groups have the length of a content
+pub padded-length : (l : List Bool) → length l ≤ longest → contentLength (length (padded l)) ≡ true
+padded-length l h = ap contentLength (length-padded l) ∙ room-length (length l) h
+
+-- with bits p before them, and with zero bits up to the end of the fewest groups
+module _ (p : List Bool) (its : List Item) where
+  abbrev zs : List Bool
+  zs = zeros (room (length (p ++ packing its)) - length (p ++ packing its))
+
+  pub padded-front : take (length p) (padded (p ++ packing its)) ≡ p
+  unfolding padded
+  padded-front = ap (take (length p)) (append-assoc p (packing its) zs) ∙ take-at p (packing its ++ zs) (length p) refl
+
+  pub padded-rest : drop (length p) (padded (p ++ packing its)) ≡ packing its ++ zs
+  unfolding padded
+  padded-rest = ap (drop (length p)) (append-assoc p (packing its) zs) ∙ drop-at p (packing its ++ zs) (length p) refl
+
+  pub written-is-read : writable its ≡ true → length (p ++ packing its) ≤ longest → content (drop (length p) (padded (p ++ packing its))) ≡ gives its
+  written-is-read w short =
+      let n = length (p ++ packing its) in
+      let h : length (drop (length p) (padded (p ++ packing its))) ≤ longest =
+      omega (arith, length-drop (length p) (padded (p ++ packing its)), length-padded (p ++ packing its)) in
+      content-items (drop (length p) (padded (p ++ packing its))) h
+      ∙ ap items padded-rest
+      ∙ packing-read its zs (packable-fits its (writable-packable its w)) (writable-last its w) (allZero-zeros (room n - n))

@@ -1,4 +1,4 @@
--- The content of a message, whole or in part: document 01, "Multi-group content"; ISO 14819-1 clause 5.5.1.
+-- The content of a message: document 01, "Multi-group content"; ISO 14819-1 clause 5.5.1.
 use Prim.Native.Nat.{ℕ}
 use mathlib.Core.Bool.{Bool, true, false, _||_}
 use mathlib.Core.List.{List}
@@ -12,10 +12,6 @@ use Rattle.content.specs.Packing.{longest}
 unfoldable pub contentLength : ℕ → Bool
 contentLength n = eqb n 28 || eqb n 56 || eqb n 84 || eqb n 112
 
--- the items of a message's whole content
+-- the items of content bits, no more of them than five groups have
 unfoldable pub content : List Bool → Reading
-content l = elim (contentLength (length l)) [ true ↦ items l | false ↦ refused 1 ]
-
--- the items of a part of it: any number of bits up to the longest content
-unfoldable pub contentPart : List Bool → Reading
-contentPart l = elim (leb (length l) longest) [ true ↦ items l | false ↦ refused 1 ]
+content l = elim (leb (length l) longest) [ true ↦ items l | false ↦ refused 1 ]

@@ -64,6 +64,6 @@ groups n = 1 + max 1 ((n + 27) / groupBits)
 abbrev pub room : ℕ → ℕ
 room n = groupBits * (groups n - 1)
 
--- the content of the fewest groups: the items and zero bits
-unfoldable pub padded : List Item → List Bool
-padded its = packing its ++ zeros (room (length (packing its)) - length (packing its))
+-- content bits, and zero bits up to the end of the fewest groups
+unfoldable pub padded : List Bool → List Bool
+padded l = l ++ zeros (room (length l) - length l)

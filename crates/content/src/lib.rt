@@ -1,10 +1,10 @@
 // Optional content of multi-group messages, 28 to 112 bits: the items that it holds, both ways.
-// `read`, `read_part` and `pack` take whatever they are given; calls of `Content` are inner ones, and ask of their caller what their
+// `read` and `pack` take whatever they are given; calls of `Content` are inner ones, and ask of their caller what their
 // `requires` say.
 pub mod content;
 pub mod item;
 pub mod items;
 pub mod pack;
 pub mod read;
-mod rest;
+pub mod rest;
 mod width;

@@ -4,7 +4,7 @@ ghost use Prim.Native.Nat.{_+_, _*_, _≤_};
 ghost use lib.ListN.{length, take};
 ghost use Rattle.bits.specs.Outcome.{refused};
 ghost use Rattle.content.specs.Items.{items};
-ghost use Rattle.content.specs.Content.{content, contentPart};
+ghost use Rattle.content.specs.Content.{content};
 ghost use Rattle.content.specs.Packing.{longest};
 ghost use Rattle.content.specs.Halves.{bitsOf, remaining};
 ghost use Rattle.content.specs.Stored.{limit, filled, listed, inCells};
@@ -26,21 +26,9 @@ pub struct Reading {
     pub items: Items,
 }
 
-// Reads the first `size` bits as a message's whole content: 1 for a length that no groups give, 7 where bits of an item are missing, 8 at
-// label 15.
+// Reads the items of the first `size` bits: 1 if they are more than the longest content has, 7 where bits of an item are missing, 8 at label 15.
 pub fn read(c: Content, size: usize) -> Reading
     ensures { λ r. ⌜ r ≡ readingOf (content (take size (bitsOf c))) ⌝ }
-{
-    if Content::is_length(size) {
-        read_part(c, size)
-    } else {
-        Reading::refused(1)
-    }
-}
-
-// Reads the first `size` bits as part of a content: 1 if they are more than the longest content has, else as above.
-pub fn read_part(c: Content, size: usize) -> Reading
-    ensures { λ r. ⌜ r ≡ readingOf (contentPart (take size (bitsOf c))) ⌝ }
 {
     if Content::LONGEST < size {
         return Reading::refused(1);

@@ -34,7 +34,7 @@ impl Rest {
     }
 
     // The first w bits as a number.
-    fn head(self, w: usize) -> u64
+    pub fn head(self, w: usize) -> u64
         requires { ⌜ (w < 64) × (w ≤ self .left) ⌝ }
         ensures { λ r. ⌜ r ≡ val (take w (remaining self)) ⌝ }
     {
@@ -43,7 +43,7 @@ impl Rest {
     }
 
     // The bits after the first w.
-    fn tail(self, w: usize) -> Self
+    pub fn tail(self, w: usize) -> Self
         requires { ⌜ (w < 64) × (w ≤ self .left) × (self .left < 128) ⌝ }
         ensures { λ r. ⌜ (remaining r ≡ drop w (remaining self)) × (r .left ≡ self .left - w) ⌝ }
     {

@@ -32,7 +32,7 @@ use Rattle.report.specs.declared.Report.{Report}
 use Rattle.report.specs.declared.Form.{Form}
 use Rattle.report.specs.declared.Form.the-variants.{Single, Multi}
 use Rattle.report.specs.declared.Packing.the-variants.{Groups, Refused}
-use Rattle.report.specs.Fits.{singleFits, itemsFit, fitsBy, reportFits}
+use Rattle.report.specs.Fits.{singleFits, itemsFit, fitsBy, realFits, reportFits}
 use Rattle.report.specs.Record.{contentBytes, bytesOf, groupsFor, groupsOf, packReport, bytesAfter}
 use Rattle.report.proofs.Multi.{items-fit, fit-writable, fit-packed}
 
@@ -106,7 +106,7 @@ single-items r h =
 
 pub report-items : (r : Report) → reportFits r ≡ true → itemsFit (r .items) ≡ true
 unfolding reportFits fitsBy
-report-items r h = by-form (r .form) h
+report-items r h = by-form (r .form) (and-right (realFits (r .form) (r .head) (r .real)) (fitsBy (r .form) r) h)
   where
     by-form : (f : Form) → fitsBy f r ≡ true → itemsFit (r .items) ≡ true
     by-form Single e = single-items r e

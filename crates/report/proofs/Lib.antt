@@ -1,7 +1,9 @@
 pub mod Searching
 pub mod Messages
-pub mod Tests
 pub mod Multi
+pub mod Places
+pub mod Wholes
+pub mod Tests
 pub mod Kept
 pub mod OwnParts
 pub mod Outcomes

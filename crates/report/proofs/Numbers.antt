@@ -1,31 +1,46 @@
--- The refusals that the answers tell, in the numbers of document 01: a message is refused as its content is (1, 7 or 8), and packing with 9,
--- then 15.
+-- The refusals that the answers tell, in the numbers of document 01: items are refused as content is (1, 7 or 8), a message for its length (1)
+-- and then as its items are, and packing with 9, then 15.
 use Prim.Native.Nat.{ℕ}
 use mathlib.Core.Path.{_≡_, refl}
 use mathlib.Core.Bool.{Bool, true, false, cond, _&&_}
 use mathlib.Core.List.{List}
+use lib.ListN.{length, take, drop}
 use lib.Dec.{leb}
+use Rattle.bits.specs.Bits.{val}
 use Rattle.bits.specs.Outcome.{gives, refused, mapped}
 use Rattle.word.specs.declared.Head.{Head}
 use Rattle.content.specs.Items.{Reading}
-use Rattle.content.specs.Content.{content}
+use Rattle.content.specs.Content.{contentLength, content}
 use Rattle.content.specs.Answers.{readingOf, readRefusal}
 use Rattle.report.specs.declared.Report.{Report}
+use Rattle.report.specs.declared.Form.the-variants.{Multi}
 use Rattle.report.specs.declared.Packing.{Packing}
 use Rattle.report.specs.declared.Packing.the-variants.{Groups, Refused}
 use Rattle.report.specs.Report.{multiReport}
 use Rattle.report.specs.Answers.{refusalIn, groupsIn, packRefusal}
-use Rattle.report.specs.Read.{readBits, outcomeOf}
+use Rattle.report.specs.Read.{readItems, readBits, outcomeOf}
+use Rattle.report.specs.InterRoad.{itemsAt}
 use Rattle.report.specs.Fits.{reportFits}
 use Rattle.report.specs.Record.{contentBytes, groupsOf, packReport}
 
-pub read-number : (h : Head) (l : List Bool) → refusalIn (outcomeOf (readBits h l) .answer) ≡ readRefusal (readingOf (content l) .answer)
-unfolding outcomeOf readBits readingOf
-read-number h l = by-reading (content l)
+pub items-number : (h : Head) (real : ℕ) (l : List Bool) → refusalIn (outcomeOf (readItems h real l) .answer) ≡ readRefusal (readingOf (content l) .answer)
+unfolding outcomeOf readItems readingOf
+items-number h real l = by-reading (content l)
   where
-    by-reading : (x : Reading) → refusalIn (outcomeOf (mapped (multiReport h) x) .answer) ≡ readRefusal (readingOf x .answer)
+    by-reading : (x : Reading) → refusalIn (outcomeOf (mapped (multiReport h real) x) .answer) ≡ readRefusal (readingOf x .answer)
     by-reading (gives its) = refl
     by-reading (refused n) = refl
+
+pub message-number : (h : Head) (l : List Bool)
+    → refusalIn (outcomeOf (readBits h l) .answer) ≡ cond (contentLength (length l)) (readRefusal (readingOf (content (drop (itemsAt Multi h) l)) .answer)) 1
+unfolding outcomeOf readBits
+message-number h l = by-length (contentLength (length l))
+  where
+    by-length : (b : Bool)
+        → refusalIn (outcomeOf (elim b [ true ↦ readItems h (val (take (itemsAt Multi h) l)) (drop (itemsAt Multi h) l) | false ↦ refused 1 ]) .answer)
+        ≡ cond b (readRefusal (readingOf (content (drop (itemsAt Multi h) l)) .answer)) 1
+    by-length true = items-number h (val (take (itemsAt Multi h) l)) (drop (itemsAt Multi h) l)
+    by-length false = refl
 
 -- the number of groups where there is no refusal
 pub pack-numbers : (r : Report) (room : ℕ)

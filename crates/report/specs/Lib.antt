@@ -1,4 +1,5 @@
 pub mod Report
+pub mod InterRoad
 pub mod Answers
 pub mod Read
 pub mod Fits

@@ -30,11 +30,11 @@ diversionOf its = firstWhere isDiversion (λ i. 1) its
 
 -- a single-group message
 abbrev pub singleReport : ℕ → ℕ → Head → Report
-singleReport duration diversion h = record { form = Single; head = h; diversion = diversion; duration = duration; items = filled [] }
+singleReport duration diversion h = record { form = Single; head = h; real = 0; diversion = diversion; duration = duration; items = filled [] }
 
--- a multi-group message
-abbrev pub multiReport : Head → List Item → Report
-multiReport h its = record { form = Multi; head = h; diversion = diversionOf its; duration = durationOf its; items = filled its }
+-- a multi-group message, with its real location, 0 where it has none
+abbrev pub multiReport : Head → ℕ → List Item → Report
+multiReport h real its = record { form = Multi; head = h; real = real; diversion = diversionOf its; duration = durationOf its; items = filled its }
 
 -- what stands where there is no report
 abbrev pub blank : Report

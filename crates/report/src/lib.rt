@@ -1,5 +1,6 @@
 // The report of a message: read from its groups, tested as a writer does, and as the message table keeps it.
 mod fits;
+pub mod inter_road;
 mod read;
 mod record;
 
@@ -12,10 +13,12 @@ pub enum Form {
     Multi,
 }
 
-// What a message says. Its items are by value, at most 28, and unused places are zero.
+// What a message says. Its items are by value, at most 28, and unused places are zero. The location of an INTER-ROAD message is a foreign
+// location table's code, and its real location stands beside it, which is 0 in every other message.
 pub struct Report {
     pub items: Items,
     pub head: Head,
+    pub real: u16,
     pub diversion: u8,
     pub duration: u8,
     pub form: Form,

@@ -3,18 +3,21 @@ ghost use mathlib.Core.Path.{_≡_};
 ghost use Prim.Native.Nat.{_≤_, _<_};
 ghost use mathlib.Core.Bool.{true};
 ghost use lib.ListN.{take};
+ghost use Rattle.bits.specs.Outcome.{refused};
 ghost use Rattle.content.specs.Halves.{bitsOf};
 ghost use Rattle.content.specs.Packing.{allFit};
 ghost use Rattle.content.specs.Stored.{limit, filled, listed};
 ghost use Rattle.report.specs.Report.{singleReport, multiReport, blank as Report·blank, durationOf, diversionOf};
-ghost use Rattle.report.specs.Read.{readBits, outcomeOf};
+ghost use Rattle.report.specs.Read.{readItems, readBits, outcomeOf};
 use crate::Answer;
 use crate::Form;
 use crate::MessageReading;
 use crate::Report;
+use crate::inter_road::items_at;
 use content::content::Content;
 use content::items::Items;
 use content::read::ReadAnswer;
+use content::rest::Rest;
 use word::Head;
 
 impl Report {
@@ -38,16 +41,34 @@ impl Report {
         Report {
             form: Form::Single,
             head,
+            real: 0,
             diversion,
             duration,
             items: Items::new(),
         }
     }
 
-    // The report of a multi-group message, from its head and the first `size` content bits: refusals 1, 7 and 8 as content is
-    // read.
+    // The report of a multi-group message, from its head and its content, which is the first `size` bits: 1 for a length that no groups
+    // give, 7 and 8 as items are read.
     pub fn multi(head: Head, content: Content, size: usize) -> MessageReading
         ensures { λ r. ⌜ r ≡ outcomeOf (readBits head (take size (bitsOf content))) ⌝ }
+    {
+        if !Content::is_length(size) {
+            return refused(1);
+        }
+        let at = items_at(Form::Multi, head);
+        let whole = Rest {
+            bits: content,
+            left: size,
+        };
+        let rest = whole.tail(at);
+        Report::with_items(head, whole.head(at) as u16, rest.bits, rest.left)
+    }
+
+    // The report of a multi-group message, from its head, its real location and the first `size` bits, which hold its items: refusals 1, 7
+    // and 8 as items are read.
+    pub fn with_items(head: Head, real: u16, content: Content, size: usize) -> MessageReading
+        ensures { λ r. ⌜ r ≡ outcomeOf (readItems head real (take size (bitsOf content))) ⌝ }
     {
         let reading = content::read::read(content, size);
         let answer = reading.answer;
@@ -55,24 +76,32 @@ impl Report {
         match answer {
             ReadAnswer::Read => MessageReading {
                 answer: Answer::Read,
-                report: of_items(head, items),
+                report: of_items(head, real, items),
             },
-            ReadAnswer::Refused(n) => MessageReading {
-                answer: Answer::Refused(n),
-                report: Report::new(),
-            },
+            ReadAnswer::Refused(n) => refused(n),
         }
     }
 }
 
+// The refusal's number, and no report.
+fn refused(n: u8) -> MessageReading
+    ensures { λ r. ⌜ r ≡ outcomeOf (refused n) ⌝ }
+{
+    MessageReading {
+        answer: Answer::Refused(n),
+        report: Report::new(),
+    }
+}
+
 // The report of items as content is read.
-fn of_items(head: Head, items: Items) -> Report
+fn of_items(head: Head, real: u16, items: Items) -> Report
     requires { ⌜ (items .count ≤ limit) × (allFit (listed items) ≡ true) × (filled (listed items) ≡ items) ⌝ }
-    ensures { λ r. ⌜ r ≡ multiReport head (listed items) ⌝ }
+    ensures { λ r. ⌜ r ≡ multiReport head real (listed items) ⌝ }
 {
     Report {
         form: Form::Multi,
         head,
+        real,
         diversion: diversion(items),
         duration: duration(items) as u8,
         items,

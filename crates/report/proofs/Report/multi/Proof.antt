@@ -1,55 +1,70 @@
--- What the reading of the content says.
+-- The bits of the real location, and then the items of the rest.
+use Prim.Native.Nat.{ℕ}
+use native.Mathlib.Omega.{arith}
 use mathlib.Core.Path.{sym, ap, _∙_}
-use lib.ListN.{take}
-use Rattle.bits.specs.Outcome.{mapped}
-use Rattle.content.specs.Items.{Reading}
-use Rattle.content.specs.Halves.{bitsOf}
-use Rattle.report.specs.declared.Report.{Report}
-use Rattle.report.specs.declared.Answer.the-variants.{Read}
-use Rattle.report.specs.Report.{multiReport}
-use Rattle.report.specs.Read.{readBits, outcomeOf}
-use Rattle.report.proofs.Messages.{read-items, read-refused, items-listed, items-count, items-fit, items-filled}
+use borrow.Author.Tests.{not-true, not-false}
+use lib.ListN.{take, drop}
+use Rattle.bits.specs.Bits.{val}
+use Rattle.content.specs.Halves.{bitsOf, remaining}
+use Rattle.report.specs.declared.Form.the-variants.{Multi}
+use Rattle.report.specs.Read.{outcomeOf}
+use Rattle.report.proofs.Places.{place-small, real-lt}
+use Rattle.report.proofs.Wholes.{length-between, kept-read, kept-refused}
 use borrow.Author.Needs.{needs}
 use Rattle.report.proofs.Report.multi.Statement.{statement}
 use Rattle.report.proofs.Report.multi.Tie as tie
 
-enum-told : tie.Need-enum-told
-enum-told c = search needs
-
-of-items-requires : tie.Need-of-items-requires
-of-items-requires c κs =
-    let a = c .before .before .before .before .args in
-    let l = take (a .size) (bitsOf (a .content)) in
-    let r = c .before .before .before .read in
-    let h = read-items l (r .result) (r .ensures) (c .enum-told .given .1) in
-    (items-count l (r .result .items) h, items-fit l (r .result .items) h, items-filled l (r .result .items) h)
-
 returns : tie.Need-returns
-unfolding outcomeOf readBits
 returns c =
+    let a = c .before .before .before .args in
+    c .refused .ensures ∙ ap outcomeOf (kept-refused (a .head) (a .content) (a .size) (sym (c .before .before .is-length .ensures) ∙ not-true _ (c .before .if1 .taken)))
+
+tail-requires : tie.Need-tail-requires
+tail-requires c κs =
+    let a = c .before .before .before .args in
+    let size = length-between (a .size) (sym (c .before .before .is-length .ensures) ∙ not-false _ (c .before .if1 .left)) in
+    let small = place-small Multi (a .head) in
+    let at = c .items-at .ensures in
+    (omega arith, omega arith, omega arith)
+
+head-requires : tie.Need-head-requires
+head-requires c κs =
+    let a = c .before .before .before .before .args in
+    let size = length-between (a .size) (sym (c .before .before .before .is-length .ensures) ∙ not-false _ (c .before .before .if1 .left)) in
+    let small = place-small Multi (a .head) in
+    let at = c .before .items-at .ensures in
+    (omega arith, omega arith)
+
+cast-with-items : tie.Need-cast-with-items
+unfolding remaining
+cast-with-items c =
     let a = c .before .before .before .before .before .args in
-    let l = take (a .size) (bitsOf (a .content)) in
-    let r = c .before .before .before .before .read in
-    let h = read-items l (r .result) (r .ensures) (c .before .enum-told .given .1) in
-    ap (λ (x : Report). record { answer = Read; report = x }) (c .of-items .ensures ∙ ap (multiReport (a .head)) (items-listed l (r .result .items) h))
-    ∙ sym (ap (λ (x : Reading). outcomeOf (mapped (multiReport (a .head)) x)) (h .reading))
+    let real = c .head .ensures ∙ ap (λ (n : ℕ). val (take n (take (a .size) (bitsOf (a .content))))) (c .before .before .items-at .ensures) in
+    omega (arith, real, real-lt Multi (a .head) (take (a .size) (bitsOf (a .content))))
 
 returns-2 : tie.Need-returns-2
-unfolding outcomeOf readBits
+unfolding remaining
 returns-2 c =
     let a = c .before .before .before .before .before .before .args in
-    let l = take (a .size) (bitsOf (a .content)) in
-    let r = c .before .before .before .before .before .read in
-    rw (c .new .ensures) (sym (ap (λ (x : Reading). outcomeOf (mapped (multiReport (a .head)) x)) (read-refused l (r .result) _ (r .ensures) (c .before .before .answer .given .1))))
+    let at = c .before .before .before .items-at .ensures in
+    let kept = take (a .size) (bitsOf (a .content)) in
+    c .with-items .ensures
+    ∙ ap outcomeOf
+    (kept-read (a .head) (a .content) (a .size) _ _
+    (sym (c .before .before .before .before .before .is-length .ensures) ∙ not-false _ (c .before .before .before .before .if1 .left))
+    (c .before .head .ensures ∙ ap (λ (n : ℕ). val (take n kept)) at)
+    (c .before .before .tail .ensures .0 ∙ ap (λ (n : ℕ). drop n kept) at))
 
 pub multi-spec : {M : Type 1} → statement M
 multi-spec =
     tie.close
     (tie.spec
     (search needs)
-    enum-told
-    of-items-requires
-    (search needs)
     (search needs)
     returns
+    (search needs)
+    tail-requires
+    head-requires
+    cast-with-items
+    (search needs)
     returns-2)
