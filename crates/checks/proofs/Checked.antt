@@ -14,15 +14,16 @@ use Rattle.clock.specs.declared.Expiry.the-variants.{At}
 use Rattle.clock.specs.Time.{largest, longestLife, offsetFits}
 use Rattle.clock.specs.Expiry.{expiryAnswer}
 use Rattle.clock.proofs.Expiries.{ends-at, expiry-fits}
+use Rattle.location.specs.Flt.{isFlt}
 use Rattle.record.specs.Services.{serviceFits}
-use Rattle.record.specs.declared.Location.{Location}
+use Rattle.record.specs.Locations.{locationOf}
 use Rattle.record_report.proofs.Reports.{report-ranges}
 use Rattle.lent.specs.Catalogue.{typeOf}
 use Rattle.lent.specs.Lent.{lentFit}
 use Rattle.lent.proofs.Lents.{lent-events, lent-lives, life-short}
 use Rattle.checks.specs.declared.Arrival.{Arrival}
 use Rattle.checks.specs.Events.{entryFor, kindFor, lifeFor, expiryFor}
-use Rattle.checks.specs.Checks.{minuteUnfit, askedFit, isForeign, laterRefusal, checkRefusal, locationOf}
+use Rattle.checks.specs.Checks.{minuteUnfit, askedFit, laterRefusal, checkRefusal}
 use Rattle.checks.proofs.InOrder.{later-in-order, checks-in-order}
 
 -- a minute that is not refused is not below the last one, and not too large
@@ -35,8 +36,8 @@ minute-fits last minute e = let n = neither (ltb minute last) (ltb largest minut
     neither false b h = (refl, h)
 
 -- and an event that is not refused is known
-later-passed : (last minute : ℕ) (location : Location) (kind : ℕ) → laterRefusal last minute location kind ≡ 0 → (minuteUnfit last minute ≡ false) × (eqb kind 0 ≡ false)
-later-passed last minute location kind h = by-tests (minuteUnfit last minute) (isForeign location) (eqb kind 0) (sym (later-in-order last minute location kind _ _ _ refl refl refl) ∙ h)
+later-passed : (last minute code kind : ℕ) → laterRefusal last minute code kind ≡ 0 → (minuteUnfit last minute ≡ false) × (eqb kind 0 ≡ false)
+later-passed last minute code kind h = by-tests (minuteUnfit last minute) (isFlt code) (eqb kind 0) (sym (later-in-order last minute code kind _ _ _ refl refl refl) ∙ h)
   where
     by-tests : (x y z : Bool) → _≡_ {A = ℕ} (cond x 13 (cond y 12 (cond z 11 0))) 0 → (x ≡ false) × (z ≡ false)
     by-tests true y z e = absurd (omega arith)
@@ -55,12 +56,12 @@ module _ (t c l : List ℕ) (last : ℕ) (a : Arrival) (lto : ℤ) where
   pub checked : checkRefusal t c l last a lto ≡ 0 → Checked
   checked e = by-lent (lentFit t c l) refl
     where
-      later : lentFit t c l ≡ true → askedFit (a .report) (a .service) lto ≡ true → laterRefusal last (a .minute .0) (locationOf (a .report)) (kindFor c (a .report)) ≡ 0
+      later : lentFit t c l ≡ true → askedFit (a .report) (a .service) lto ≡ true → laterRefusal last (a .minute .0) (locationOf (a .service) (a .report) .code) (kindFor c (a .report)) ≡ 0
       later f g = sym (checks-in-order t c l last a lto true true f g) ∙ e
 
       by-asked : (b : Bool) → lentFit t c l ≡ true → askedFit (a .report) (a .service) lto ≡ b → Checked
       by-asked true f g =
-          let passed = later-passed last (a .minute .0) (locationOf (a .report)) (kindFor c (a .report)) (later f g) in
+          let passed = later-passed last (a .minute .0) (locationOf (a .service) (a .report) .code) (kindFor c (a .report)) (later f g) in
           record { lent = f; asked = g; minute-fit = passed .0; known = passed .1 }
       by-asked false f g = absurd (let z : 9 ≡ 0 = sym (checks-in-order t c l last a lto true false f g) ∙ e in omega arith)
 

@@ -1,16 +1,17 @@
--- What a call on the table refuses, but for want of room (document 01, "The message table").
+-- What a call on the table refuses, but for want of room (documents 01, "The message table", and 02, R-1).
 use Prim.Native.Nat.{ℕ}
 use mathlib.Core.Bool.{Bool, cond, _&&_, _||_}
 use mathlib.Core.List.{List}
 use lib.IntN.{ℤ}
-use lib.Dec.{eqb, leb, ltb}
+use lib.Dec.{eqb, ltb}
 use Rattle.bits.specs.Checks.{must}
+use Rattle.location.specs.Flt.{isFlt}
 use Rattle.report.specs.declared.Report.{Report}
 use Rattle.report.specs.Fits.{reportFits}
 use Rattle.clock.specs.Time.{largest, offsetFits}
 use Rattle.record.specs.declared.Service.{Service}
-use Rattle.record.specs.declared.Location.{Location}
 use Rattle.record.specs.Services.{serviceFits}
+use Rattle.record.specs.Locations.{locationOf}
 use Rattle.lent.specs.Lent.{lentFit}
 use Rattle.checks.specs.declared.Arrival.{Arrival}
 use Rattle.checks.specs.Events.{kindFor}
@@ -23,21 +24,14 @@ askedFit r s lto = reportFits r && (serviceFits s && offsetFits lto)
 abbrev pub minuteUnfit : ℕ → ℕ → Bool
 minuteUnfit last minute = ltb minute last || ltb largest minute
 
--- the location of a report
-abbrev pub locationOf : Report → Location
-locationOf r = record { code = r .head .location }
-
--- a location of another table
-abbrev pub isForeign : Location → Bool
-isForeign l = leb 0xFC00 (l .code)
-
--- the refusal by minute, location and kind, in this order; 0 where there is none
-unfoldable pub laterRefusal : (last minute : ℕ) → Location → (kind : ℕ) → ℕ
-laterRefusal last minute location kind = cond (minuteUnfit last minute) 13 (cond (isForeign location) 12 (cond (eqb kind 0) 11 0))
+-- the refusal by minute, code of the location and kind, in this order; 0 where there is none. The code is an FLT code of a single-group
+-- report at one, and of an INTER-ROAD report whose real location is 0xFC00 or above
+unfoldable pub laterRefusal : (last minute code kind : ℕ) → ℕ
+laterRefusal last minute code kind = cond (minuteUnfit last minute) 13 (cond (isFlt code) 12 (cond (eqb kind 0) 11 0))
 
 -- the first refusal but that for want of room, or 0
 unfoldable pub checkRefusal : (t catalogue lives : List ℕ) → ℕ → Arrival → ℤ → ℕ
 checkRefusal t catalogue lives last a lto =
     must (lentFit t catalogue lives) 10
     (must (askedFit (a .report) (a .service) lto) 9
-    (laterRefusal last (a .minute .0) (locationOf (a .report)) (kindFor catalogue (a .report))))
+    (laterRefusal last (a .minute .0) (locationOf (a .service) (a .report) .code) (kindFor catalogue (a .report))))

@@ -5,7 +5,7 @@ use clock::Utc;
 use clock::offset_fits;
 use lent::catalogue::Entry;
 use lent::lent_fit;
-use record::Location;
+use location::Location;
 use record::Service;
 use report::Report;
 
@@ -31,10 +31,8 @@ pub fn check(t: &[u8], catalogue: &[u16], lives: &[u16], last: Utc, arrival: Arr
     let head = report.head;
     let entry = Entry(catalogue[head.event as usize]);
     let minute = arrival.minute;
-    let location = Location {
-        code: head.location,
-    };
-    later_refusal(last, minute, location, entry.kind())
+    let location = service.location_of(report);
+    later_refusal(last, minute, location.code, entry.kind())
 }
 
 // Whether a minute is below the last one or too large.
@@ -51,14 +49,14 @@ fn asked_fit(report: Report, service: Service, lto: i8) -> bool
     report.fits() & (service.fits() & offset_fits(lto))
 }
 
-// The refusal by minute, location and kind of event, or 0.
-fn later_refusal(last: Utc, minute: Utc, location: Location, kind: u16) -> u8
-    ensures { λ n. ⌜ n ≡ laterRefusal (last .0) (minute .0) location kind ⌝ }
+// The refusal by minute, code of the location and kind of event, or 0.
+fn later_refusal(last: Utc, minute: Utc, code: u16, kind: u16) -> u8
+    ensures { λ n. ⌜ n ≡ laterRefusal (last .0) (minute .0) code kind ⌝ }
 {
     if minute_unfit(last, minute) {
         return 13;
     }
-    if Location::FOREIGN <= location.code {
+    if Location::is_flt(code) {
         return 12;
     }
     if kind == Entry::UNKNOWN {

@@ -1,4 +1,5 @@
 pub mod AsRecord
+pub mod ReportLocations
 pub mod Ranges
 pub mod Zeros
 pub mod Tested

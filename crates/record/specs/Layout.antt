@@ -1,17 +1,18 @@
--- The bytes of a record (document 01, "The message table"). Numbers are little-endian.
+-- The bytes of a record (documents 01, "The message table", and 02, R-1). Numbers are little-endian.
 use Prim.Native.Nat.{ℕ, _+_, _*_}
 use mathlib.Core.Bool.{Bool, cond}
 use mathlib.Core.List.{List}
 use lib.ListN.{length, take, drop, getD, replicate}
 use lib.Dec.{eqb}
 use Rattle.word.specs.declared.Head.{Head}
+use Rattle.location.specs.declared.Location.{Location}
 use Rattle.report.specs.Record.{contentBytes}
 use Rattle.record.specs.declared.Service.{Service}
-use Rattle.record.specs.declared.Location.{Location}
+use Rattle.record.specs.Locations.{headLocation, realLocation}
 
 -- the bytes of a record
 abbrev pub recordSize : ℕ
-recordSize = 32
+recordSize = 34
 
 -- bytes that are one record's
 abbrev pub isRecord : List ℕ → Bool
@@ -49,13 +50,16 @@ abbrev pub serviceIn : List ℕ → Service
 serviceIn r = record { country = byteAt r 31; ltn = byteAt r 3; sid = byteAt r 2 }
 
 abbrev pub locationIn : List ℕ → Location
-locationIn r = record { code = twoAt r 4 }
+locationIn r = record { country = byteAt r 32; ltn = byteAt r 33; code = twoAt r 4 }
 
 abbrev pub directionIn : List ℕ → ℕ
 directionIn r = byteAt r 8
 
 abbrev pub headIn : List ℕ → Head
-headIn r = record { direction = directionIn r; extent = byteAt r 9; event = twoAt r 6; location = locationIn r .code }
+headIn r = record { direction = directionIn r; extent = byteAt r 9; event = twoAt r 6; location = headLocation (serviceIn r) (locationIn r) }
+
+abbrev pub realIn : List ℕ → ℕ
+realIn r = realLocation (serviceIn r) (locationIn r)
 
 abbrev pub diversionIn : List ℕ → ℕ
 diversionIn r = byteAt r 10

@@ -1,4 +1,5 @@
 pub mod Services
+pub mod Locations
 pub mod Layout
 pub mod WellFormed
 pub mod Zeros

@@ -1,10 +1,10 @@
--- The records that match a report (document 01, "The message table", step 2; ISO 14819-1, clause 6.4).
+-- The records that match a report (documents 01, "The message table", step 2, and 02, R-1; ISO 14819-1, clause 6.4).
 use Prim.Native.Nat.{ℕ}
 use mathlib.Core.Bool.{Bool, not, _&&_}
 use mathlib.Core.List.{List}
 use lib.Dec.{eqb}
+use Rattle.location.specs.declared.Location.{Location}
 use Rattle.record.specs.declared.Service.{Service}
-use Rattle.record.specs.declared.Location.{Location}
 use Rattle.record.specs.declared.Key.{Key}
 use Rattle.record.specs.Layout.{isFree, serviceIn, locationIn, directionIn, classIn}
 
@@ -13,7 +13,7 @@ abbrev pub sameService : (x y : Service) → Bool
 sameService x y = eqb (x .country) (y .country) && (eqb (x .ltn) (y .ltn) && eqb (x .sid) (y .sid))
 
 abbrev pub sameLocation : (x y : Location) → Bool
-sameLocation x y = eqb (x .code) (y .code)
+sameLocation x y = eqb (x .code) (y .code) && (eqb (x .country) (y .country) && eqb (x .ltn) (y .ltn))
 
 -- a used record of the same service, location, direction and update class of the first event
 unfoldable pub matching : Key → List ℕ → Bool

@@ -10,9 +10,9 @@ use Rattle.content.specs.Packing.{groupBits}
 use Rattle.record.specs.Layout.{recordSize, isFree, groupsIn, expiryIn, contentIn, classIn}
 
 -- the bits of each byte of a used record: mark, groups, SID, LTN, location, event, direction, extent, diversion, duration; expiry and
--- content; class, country
+-- content; class, country; country and LTN of the location
 unfoldable pub widths : List ℕ
-widths = (1 ∷ 3 ∷ 6 ∷ 6 ∷ 8 ∷ 8 ∷ 8 ∷ 3 ∷ 1 ∷ 3 ∷ 1 ∷ 3 ∷ []) ++ (replicate 18 8 ++ (6 ∷ 4 ∷ []))
+widths = (1 ∷ 3 ∷ 6 ∷ 6 ∷ 8 ∷ 8 ∷ 8 ∷ 3 ∷ 1 ∷ 3 ∷ 1 ∷ 3 ∷ []) ++ (replicate 18 8 ++ (6 ∷ 4 ∷ 4 ∷ 6 ∷ []))
 
 -- no byte has more than its bits
 unfoldable pub within : (ws xs : List ℕ) → Bool

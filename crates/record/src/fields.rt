@@ -2,15 +2,15 @@
 ghost use mathlib.Core.Path.{_≡_};
 ghost use Prim.Native.Nat.{_+_, _≤_};
 ghost use lib.ListN.{length};
-ghost use Rattle.record.specs.Layout.{recordSize, asRecord, twoAt, fourAt, expiryIn, locationIn, serviceIn, headIn};
-use crate::Location;
+ghost use Rattle.record.specs.Layout.{recordSize, asRecord, twoAt, fourAt, expiryIn, locationIn, serviceIn, headIn, realIn};
 use crate::Record;
 use crate::Service;
 use clock::Utc;
+use location::Location;
 use word::Head;
 
 // The number that two bytes are, the first one lowest.
-fn two(r: &[u8], at: usize) -> u16
+pub(crate) fn two(r: &[u8], at: usize) -> u16
     requires { ⌜ at + 2 ≤ length (now r) ⌝ }
     ensures { λ n. ⌜ n ≡ twoAt (now (r .entry)) at ⌝ }
 {
@@ -38,11 +38,13 @@ pub fn expiry(r: &[u8]) -> Utc
     Utc(four(r, Record::EXPIRY))
 }
 
-pub(crate) fn location(r: &[u8]) -> Location
+fn location(r: &[u8]) -> Location
     requires { ⌜ length (now r) ≡ recordSize ⌝ }
     ensures { λ l. ⌜ l ≡ locationIn (now (r .entry)) ⌝ }
 {
     Location {
+        country: r[Record::LOCATION_COUNTRY],
+        ltn: r[Record::LOCATION_LTN],
         code: two(r, Record::LOCATION),
     }
 }
@@ -75,11 +77,23 @@ pub fn head(r: &[u8]) -> Head
             location: 0,
         };
     }
-    let location = location(r);
+    let service = service(r);
+    let location = service.head_location(location(r));
     Head {
         direction: r[Record::DIRECTION],
         extent: r[Record::EXTENT],
         event: two(r, Record::EVENT),
-        location: location.code,
+        location,
     }
+}
+
+// The real location: 0 where the location is at home.
+pub fn real_location(r: &[u8]) -> u16
+    ensures { λ n. ⌜ n ≡ realIn (asRecord (now (r .entry))) ⌝ }
+{
+    if r.len() != Record::SIZE {
+        return 0;
+    }
+    let service = service(r);
+    service.real_location(location(r))
 }

@@ -7,12 +7,12 @@ ghost use Rattle.record.specs.Matching.{sameService, sameLocation, match
 ghost use Rattle.record.specs.Gone.{expired, either, onlySecond, freedIf, oneRecord};
 use crate::Freed;
 use crate::Key;
-use crate::Location;
 use crate::Record;
 use crate::Service;
 use crate::fields::expiry;
-use crate::fields::location;
+use crate::fields::two;
 use clock::Utc;
+use location::Location;
 
 // Frees the record if it has expired by the minute, and answers how many were freed. Leaves bytes that are not one record's.
 pub fn free_expired(r: &mut [u8], minute: Utc) -> usize
@@ -81,13 +81,15 @@ fn matches(r: &[u8], key: Key) -> bool
             & ((r[Record::DIRECTION] == direction) & (r[Record::CLASS] == key.class)))
 }
 
-// Whether the record's location is this one.
+// Whether the record's location is this one. The codes of most records differ, so they are compared first.
 fn same_location(r: &[u8], l: Location) -> bool
     requires { ⌜ length (now r) ≡ recordSize ⌝ }
     ensures { λ b. ⌜ b ≡ sameLocation (locationIn (now (r .entry))) l ⌝ }
 {
-    let own = location(r);
-    own.code == l.code
+    if two(r, Record::LOCATION) != l.code {
+        return false;
+    }
+    (r[Record::LOCATION_COUNTRY] == l.country) & (r[Record::LOCATION_LTN] == l.ltn)
 }
 
 // Whether the record's service is this one.

@@ -4,7 +4,10 @@ ghost use Rattle.record.specs.Services.{serviceFits};
 
 pub mod fields;
 pub mod freeing;
+pub mod locations;
 pub mod test;
+
+use location::Location;
 
 // A service: country, location table number and service identifier.
 #[repr(C)]
@@ -30,16 +33,6 @@ impl Service {
     }
 }
 
-// A location: its code in the location table of the service.
-pub struct Location {
-    pub code: u16,
-}
-
-impl Location {
-    // Codes below this are of the service's own table.
-    pub const FOREIGN: u16 = 0xFC00;
-}
-
 // What a report is matched by: its service, location, direction and the update class of its first event.
 pub struct Key {
     pub service: Service,
@@ -59,7 +52,7 @@ pub struct Record;
 
 impl Record {
     // The bytes of a record.
-    pub const SIZE: usize = 32;
+    pub const SIZE: usize = 34;
 
     // Where each part begins: the mark of a used record, then as named.
     pub const MARK: usize = 0;
@@ -89,6 +82,10 @@ impl Record {
     pub const CLASS: usize = 30;
 
     pub const COUNTRY: usize = 31;
+
+    pub const LOCATION_COUNTRY: usize = 32;
+
+    pub const LOCATION_LTN: usize = 33;
 
     // The most groups, and the largest update class; the least of both is 1.
     pub const MOST_GROUPS: u8 = 5;

@@ -21,7 +21,7 @@ content-put xs b long bl =
     ap (take 14) (drop-at (take 16 xs) (b ++ drop 14 (drop 16 xs)) 16 (length-take-le 16 xs (omega arith))) ∙ take-at b (drop 14 (drop 16 xs)) 14 bl
 
 -- the bytes before the content and those after it, stored one by one
-pub fields-put : (front tail r : List ℕ) → length r ≡ recordSize → length front ≡ 16 → length tail ≡ 2 → sets (sets r 0 front) 30 tail ≡ front ++ (contentIn r ++ tail)
+pub fields-put : (front tail r : List ℕ) → length r ≡ recordSize → length front ≡ 16 → length tail ≡ 4 → sets (sets r 0 front) 30 tail ≡ front ++ (contentIn r ++ tail)
 fields-put front tail r long fl tl =
     let d = drop 16 r in
     let some : 0 + length front ≤ length r = omega arith in

@@ -4,6 +4,8 @@ pub mod Kept
 pub mod Makings
 pub mod Readings
 pub mod MadeFields
-pub mod WayBack
 pub mod Reports
+pub mod Normal
+pub mod WayBack
 pub mod MadeFits
+pub mod Examples

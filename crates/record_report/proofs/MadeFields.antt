@@ -8,10 +8,13 @@ use lib.ListN.{length, getD, length-append}
 use lib.Seq.{take-at, getD-append-add}
 use borrow.Author.Tests.{eq-eqb}
 use Rattle.content.specs.Stored.{listed}
+use Rattle.word.specs.declared.Head.{Head}
+use Rattle.location.specs.declared.Location.{Location}
 use Rattle.report.specs.declared.Report.{Report}
 use Rattle.report.specs.Record.{bytesOf, groupsOf}
 use Rattle.record.specs.declared.Service.{Service}
-use Rattle.record.specs.Layout.{recordSize, byteAt, groupsIn, serviceIn, locationIn, headIn, expiryIn, contentIn, classIn}
+use Rattle.record.specs.Locations.{locationOf, headLocation, realLocation}
+use Rattle.record.specs.Layout.{recordSize, byteAt, groupsIn, serviceIn, locationIn, headIn, realIn, expiryIn, contentIn, classIn}
 use Rattle.record.specs.Matching.{matching}
 use Rattle.record_report.specs.Made.{tailBytes, recordOf}
 use Rattle.record_report.proofs.Kept.{length-bytes}
@@ -20,9 +23,12 @@ module _ (r : Report) (s : Service) (class expiry : ℕ) where
   abbrev bytes : List ℕ
   bytes = bytesOf (listed (r .items))
 
+  abbrev tail : List ℕ
+  tail = tailBytes class s (locationOf s r)
+
   pub length-made : length (recordOf r s class expiry) ≡ recordSize
   unfolding recordOf
-  length-made = omega (arith, length-append bytes (tailBytes class s), length-bytes (listed (r .items)))
+  length-made = omega (arith, length-append bytes tail, length-bytes (listed (r .items)))
 
   pub used-back : byteAt (recordOf r s class expiry) 0 ≡ 1
   unfolding recordOf
@@ -32,26 +38,16 @@ module _ (r : Report) (s : Service) (class expiry : ℕ) where
   unfolding recordOf
   groups-back = refl
 
-  location-code : locationIn (recordOf r s class expiry) .code ≡ r .head .location
-  unfolding recordOf
-  location-code = omega arith
-
-  pub head-back : headIn (recordOf r s class expiry) ≡ r .head
-  unfolding recordOf
-  head-back =
-      let e : r .head .event % 256 + 0x100 * (r .head .event / 256) ≡ r .head .event = omega arith in
-      λ i. record { direction = r .head .direction; extent = r .head .extent; event = e i; location = location-code i }
-
   pub expiry-back : expiryIn (recordOf r s class expiry) ≡ expiry
   unfolding recordOf
   expiry-back = omega arith
 
   pub content-back : contentIn (recordOf r s class expiry) ≡ bytesOf (listed (r .items))
   unfolding recordOf
-  content-back = take-at bytes (tailBytes class s) 14 (length-bytes (listed (r .items)))
+  content-back = take-at bytes tail 14 (length-bytes (listed (r .items)))
 
-  tail-at : (j : ℕ) → getD (bytes ++ tailBytes class s) (14 + j) 0 ≡ getD (tailBytes class s) j 0
-  tail-at j = ap (λ (n : ℕ). getD (bytes ++ tailBytes class s) (n + j) 0) (sym (length-bytes (listed (r .items)))) ∙ getD-append-add bytes (tailBytes class s) j 0
+  tail-at : (j : ℕ) → getD (bytes ++ tail) (14 + j) 0 ≡ getD tail j 0
+  tail-at j = ap (λ (n : ℕ). getD (bytes ++ tail) (n + j) 0) (sym (length-bytes (listed (r .items)))) ∙ getD-append-add bytes tail j 0
 
   pub class-back : classIn (recordOf r s class expiry) ≡ class
   unfolding recordOf
@@ -65,9 +61,26 @@ module _ (r : Report) (s : Service) (class expiry : ℕ) where
   unfolding recordOf
   service-back = λ i. record { country = country-back i; ltn = s .ltn; sid = s .sid }
 
+  pub location-back : locationIn (recordOf r s class expiry) ≡ locationOf s r
+  unfolding recordOf
+  location-back =
+      let e : locationOf s r .code % 256 + 0x100 * (locationOf s r .code / 256) ≡ locationOf s r .code = omega arith in
+      λ i. record { country = tail-at 2 i; ltn = tail-at 3 i; code = e i }
+
+  pub head-back : headIn (recordOf r s class expiry) ≡ record { direction = r .head .direction; extent = r .head .extent; event = r .head .event; location = headLocation s (locationOf s r) }
+  unfolding recordOf
+  head-back =
+      let e : r .head .event % 256 + 0x100 * (r .head .event / 256) ≡ r .head .event = omega arith in
+      let l = ap₂ headLocation service-back location-back in
+      λ i. record { direction = r .head .direction; extent = r .head .extent; event = e i; location = l i }
+
+  pub real-back : realIn (recordOf r s class expiry) ≡ realLocation s (locationOf s r)
+  real-back = ap₂ realLocation service-back location-back
+
   -- it matches its own service, location, direction and class
-  pub made-matches : matching (record { service = s; location = record { code = r .head .location }; direction = r .head .direction; class = class }) (recordOf r s class expiry) ≡ true
+  pub made-matches : matching (record { service = s; location = locationOf s r; direction = r .head .direction; class = class }) (recordOf r s class expiry) ≡ true
   unfolding matching recordOf
   made-matches =
       let both : (a b : Bool) → a ≡ true → b ≡ true → a && b ≡ true = λ a b x y. ap₂ (λ (u v : Bool). u && v) x y in
-      both _ _ (both _ _ (eq-eqb _ _ country-back) (both _ _ (eq-eqb (s .ltn) (s .ltn) refl) (eq-eqb (s .sid) (s .sid) refl))) (both _ _ (eq-eqb _ _ location-code) (both _ _ (eq-eqb (r .head .direction) (r .head .direction) refl) (eq-eqb _ _ class-back)))
+      let same-location = both _ _ (eq-eqb _ _ (ap (λ (l : Location). l .code) location-back)) (both _ _ (eq-eqb _ _ (ap (λ (l : Location). l .country) location-back)) (eq-eqb _ _ (ap (λ (l : Location). l .ltn) location-back))) in
+      both _ _ (both _ _ (eq-eqb _ _ country-back) (both _ _ (eq-eqb (s .ltn) (s .ltn) refl) (eq-eqb (s .sid) (s .sid) refl))) (both _ _ same-location (both _ _ (eq-eqb (r .head .direction) (r .head .direction) refl) (eq-eqb _ _ class-back)))

@@ -1,7 +1,7 @@
 -- The record made from a report is well-formed.
 use Prim.Native.Nat.{ℕ, zero, suc, _+_, _-_, _*_, _^_, _≤_, _<_}
 use native.Mathlib.Omega.{arith}
-use mathlib.Core.Path.{_≡_, refl, ap, ap₂, subst, _∙_}
+use mathlib.Core.Path.{_≡_, refl, sym, ap, ap₂, subst, _∙_}
 use mathlib.Core.Bool.{Bool, true, false, not, _&&_, _||_}
 use mathlib.Core.List.{List, [], _∷_, _++_}
 use lib.ListN.{length, take, drop, getD, replicate, length-append, length-replicate, length-drop}
@@ -20,12 +20,18 @@ use Rattle.content.proofs.WrittenIsRead.{packable-short, writable-packable}
 use Rattle.report.specs.declared.Report.{Report}
 use Rattle.report.specs.declared.Form.{Form}
 use Rattle.report.specs.declared.Form.the-variants.{Single, Multi}
-use Rattle.report.specs.Fits.{fitsBy, reportFits}
+use Rattle.report.specs.Fits.{fitsBy, realFits, reportFits}
 use Rattle.report.specs.Record.{bytesOf, groupsFor, groupsOf}
 use Rattle.report.proofs.Multi.{fit-writable}
 use Rattle.report.proofs.Kept.{no-items, single-none, report-items}
+use Rattle.location.specs.declared.Location.{Location}
+use Rattle.location.specs.Flt.{foreign}
+use Rattle.location.proofs.Codes.{country-lt, ltn-lt}
+use Rattle.report.specs.InterRoad.{interRoad}
 use Rattle.record.specs.declared.Service.{Service}
 use Rattle.record.specs.Services.{serviceFits}
+use Rattle.record.specs.Locations.{locationOf}
+use Rattle.record.proofs.ReportLocations.{location-foreign, location-home}
 use Rattle.record.specs.Layout.{groupsIn, expiryIn, classIn}
 use Rattle.record.specs.WellFormed.{widths, within, rangesFit, marked, complete, contentBits, spareIn, restFits, wellFormed}
 use Rattle.record_report.specs.Made.{tailBytes, marksFit, canMake, recordOf}
@@ -105,7 +111,7 @@ module _ (r : Report) (fit : reportFits r ≡ true) where
   -- the groups hold the items
   groups-hold : (1 ≤ groupsOf r) × (length (packing (listed (r .items))) ≤ groupBits * (groupsOf r - 1))
   unfolding reportFits groupsOf groupsFor packing
-  groups-hold = by-form (r .form) fit
+  groups-hold = by-form (r .form) (and-right (realFits (r .form) (r .head) (r .real)) (fitsBy (r .form) r) fit)
     where
       by-form : (f : Form) → fitsBy f r ≡ true → (1 ≤ groupsFor f (length (packing (listed (r .items))))) × (length (packing (listed (r .items))) ≤ groupBits * (groupsFor f (length (packing (listed (r .items)))) - 1))
       by-form Single h =
@@ -120,6 +126,21 @@ module _ (r : Report) (s : Service) (class expiry : ℕ) (can : canMake r s clas
 
   abbrev made : List ℕ
   made = recordOf r s class expiry
+
+  -- the parts of its location are in their ranges
+  abbrev InRange : Location → Type 0
+  InRange l = (l .country < 16) × (l .ltn < 64) × (l .code < 65536)
+
+  location-in : InRange (locationOf s r)
+  unfolding foreign
+  location-in = by-road (interRoad (r .form) (r .head)) refl
+    where
+      by-road : (b : Bool) → interRoad (r .form) (r .head) ≡ b → InRange (locationOf s r)
+      by-road true e = subst InRange (sym (location-foreign s r e)) (country-lt (r .head .location), ltn-lt (r .head .location), report-ranges r (c .report-fits) .real-lt)
+      by-road false e =
+          let country = c .country-le in
+          let ltn = c .ltn-le in
+          subst InRange (sym (location-home s r e)) (omega arith, omega arith, report-ranges r (c .report-fits) .head-in .location-lt)
 
   spare-zero : allZero (spareIn made) ≡ true
   spare-zero =
@@ -137,9 +158,11 @@ module _ (r : Report) (s : Service) (class expiry : ℕ) (can : canMake r s clas
       let in-head = in-report .head-in in
       let few = groups-few r (c .report-fits) in
       let its = listed (r .items) in
+      let l = locationOf s r in
+      let in-table = location-in in
       let none : within [] [] ≡ true = unfold within in refl in
-      let last : within (drop 30 widths) (tailBytes class s) ≡ true = within-next _ _ _ _ (omega arith) (within-next _ _ _ _ (omega arith) none) in
-      let content = within-any 14 (bytesOf its) (tailBytes class s) (drop 30 widths) (length-bytes its) (λ j k. byte-lt its j (its-short r (c .report-fits)) k) last in
+      let last : within (drop 30 widths) (tailBytes class s l) ≡ true = within-next _ _ _ _ (omega arith) (within-next _ _ _ _ (omega arith) (within-next _ _ _ _ (omega arith) (within-next _ _ _ _ (omega arith) none))) in
+      let content = within-any 14 (bytesOf its) (tailBytes class s l) (drop 30 widths) (length-bytes its) (λ j k. byte-lt its j (its-short r (c .report-fits)) k) last in
       within-next _ _ _ _ (omega arith) (within-next _ _ _ _ (omega arith) (within-next _ _ _ _ (omega arith) (within-next _ _ _ _ (omega arith)
       (within-next _ _ _ _ (omega arith) (within-next _ _ _ _ (omega arith) (within-next _ _ _ _ (omega arith) (within-next _ _ _ _ (omega arith)
       (within-next _ _ _ _ (omega arith) (within-next _ _ _ _ (omega arith) (within-next _ _ _ _ (omega arith) (within-next _ _ _ _ (omega arith)

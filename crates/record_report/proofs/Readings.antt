@@ -17,21 +17,21 @@ use Rattle.report.specs.declared.Report.{Report}
 use Rattle.report.specs.declared.MessageReading as answer
 use Rattle.report.specs.declared.Answer.the-variants as message
 use Rattle.report.specs.Report.{singleReport}
-use Rattle.report.specs.Read.{readBits, outcomeOf}
+use Rattle.report.specs.Read.{readItems, outcomeOf}
 use Rattle.report.proofs.Outcomes.{was-read, was-refused}
 use Rattle.record.specs.declared.Service.{Service}
-use Rattle.record.specs.Layout.{recordSize, byteAt, groupsIn, headIn, durationIn, diversionIn, contentIn, serviceIn, expiryIn}
+use Rattle.record.specs.Layout.{recordSize, byteAt, groupsIn, headIn, realIn, durationIn, diversionIn, contentIn, serviceIn, expiryIn}
 use Rattle.record.specs.WellFormed.{contentBits, wellFormed}
 use Rattle.record_report.specs.declared.Answer.the-variants.{Free, Read, Refused}
-use Rattle.record_report.specs.Reads.{messageIn, nothing, answered, readingIn, readingOf}
+use Rattle.record_report.specs.Reads.{withReal, messageIn, nothing, answered, readingIn, readingOf}
 
 -- the message of a record by its groups
 module _ (r : List ℕ) where
-  pub single-message : groupsIn r ≡ 1 → messageIn r ≡ gives (singleReport (durationIn r) (diversionIn r) (headIn r))
+  pub single-message : groupsIn r ≡ 1 → messageIn r ≡ gives (withReal (realIn r) (singleReport (durationIn r) (diversionIn r) (headIn r)))
   unfolding messageIn
   single-message e = chosen _ _ _ (eq-eqb (groupsIn r) 1 e)
 
-  pub multi-message : (groupsIn r ≡ 1 → ⊥) → messageIn r ≡ readBits (headIn r) (take (contentBits r) (flat 8 (contentIn r)))
+  pub multi-message : (groupsIn r ≡ 1 → ⊥) → messageIn r ≡ readItems (headIn r) (realIn r) (take (contentBits r) (flat 8 (contentIn r)))
   unfolding messageIn
   multi-message e = passed-over _ _ _ (ne-eqb (groupsIn r) 1 e)
 

@@ -1,13 +1,14 @@
--- What is stored from a report reads back as that report.
+-- What is stored from a report reads back as that report in its normal form.
 use Prim.Native.Nat.{ℕ, _+_, _-_, _*_, _≤_}
 use mathlib.Core.Path.{_≡_, refl, sym, ap, ap₂, _∙_}
 use mathlib.Core.Bool.{Bool, true, false}
-use mathlib.Core.List.{List, _++_}
+use mathlib.Core.List.{List, [], _++_}
 use native.Mathlib.Omega.{arith}
 use lib.ListN.{length, take, length-append, length-replicate}
 use lib.Seq.{take-append-add}
 use Rattle.bits.specs.Fields.{flat}
 use Rattle.bits.specs.Outcome.{Outcome, gives, mapped}
+use Rattle.bits.proofs.Choice.{and-left, and-right}
 use Rattle.bits.proofs.Fields.{flat-words}
 use Rattle.word.specs.declared.Head.{Head}
 use Rattle.content.specs.declared.item.Item.{Item}
@@ -19,18 +20,20 @@ use Rattle.report.specs.declared.Report.{Report}
 use Rattle.report.specs.declared.Form.{Form}
 use Rattle.report.specs.declared.Form.the-variants.{Single, Multi}
 use Rattle.report.specs.Report.{singleReport, multiReport}
-use Rattle.report.specs.Read.{readBits}
-use Rattle.report.specs.Fits.{fitsBy, reportFits}
+use Rattle.report.specs.Read.{readItems}
+use Rattle.report.specs.Fits.{fitsBy, realFits, reportFits}
 use Rattle.report.specs.Record.{bytesOf, groupsFor, groupsOf}
 use Rattle.report.proofs.Multi.{fit-writable}
 use Rattle.report.proofs.Kept.{report-items}
 use Rattle.report.proofs.OwnParts.{multi-is-report, single-is-report}
 use Rattle.record.specs.declared.Service.{Service}
-use Rattle.record.specs.Layout.{byteAt, groupsIn, serviceIn, expiryIn}
+use Rattle.record.specs.Layout.{byteAt, groupsIn, serviceIn, headIn, realIn, expiryIn}
 use Rattle.record_report.specs.declared.Answer.the-variants.{Read}
 use Rattle.record_report.specs.Made.{recordOf}
-use Rattle.record_report.specs.Reads.{messageIn, answered, readingIn}
-use Rattle.record_report.proofs.MadeFields.{used-back, groups-back, head-back, expiry-back, content-back, service-back}
+use Rattle.record_report.specs.Normal.{ownTable, broughtHome, normal}
+use Rattle.record_report.specs.Reads.{withReal, messageIn, answered, readingIn}
+use Rattle.record_report.proofs.MadeFields.{used-back, groups-back, head-back, real-back, expiry-back, content-back, service-back}
+use Rattle.record_report.proofs.Normal.{normal-is, single-normal, normal-gives, same-head}
 use Rattle.record_report.proofs.Readings.{single-message, multi-message, used-reading}
 
 -- the bytes of items are their bits and zeros
@@ -42,7 +45,7 @@ bits-back its short =
     flat-words 8 14 (packing its ++ zeros (longest - n)) (length-append (packing its) (zeros (longest - n)) ∙ ap (λ (m : ℕ). n + m) (length-replicate (longest - n) false) ∙ size)
 
 -- and those of its groups are the content of the fewest groups
-padded-back : (its : List Item) → length (packing its) ≤ longest → take (groupBits * (groups (length (packing its)) - 1)) (flat 8 (bytesOf its)) ≡ padded its
+padded-back : (its : List Item) → length (packing its) ≤ longest → take (groupBits * (groups (length (packing its)) - 1)) (flat 8 (bytesOf its)) ≡ padded (packing its)
 unfolding padded
 padded-back its short =
     let n = length (packing its) in
@@ -67,32 +70,60 @@ module _ (r : Report) where
   fewest-groups e k many hold = let n = length (packing (listed (r .items))) in omega (arith, multi-groups e)
 
 module _ (r : Report) (s : Service) (class expiry : ℕ) (sized : length (r .items .places) ≡ limit) (fit : reportFits r ≡ true) where
-  pub reads-back : messageIn (recordOf r s class expiry) ≡ gives r
-  unfolding reportFits fitsBy recordOf
-  reads-back = by-form (r .form) refl fit
+  abbrev made : List ℕ
+  made = recordOf r s class expiry
+
+  normal-head : headIn made ≡ normal s r .head
+  normal-head = head-back r s class expiry ∙ same-head s r fit
+
+  normal-real : realIn made ≡ normal s r .real
+  normal-real = real-back r s class expiry ∙ normal-gives s r fit .1
+
+  -- the report in its normal form is that of its own head, real location and items
+  multi-normal : multiReport (r .head) (r .real) (listed (r .items)) ≡ r → multiReport (normal s r .head) (normal s r .real) (listed (r .items)) ≡ normal s r
+  multi-normal e = by-table (ownTable s r) refl
     where
-      by-form : (f : Form) → r .form ≡ f → fitsBy f r ≡ true → messageIn (recordOf r s class expiry) ≡ gives r
+      its : List Item
+      its = listed (r .items)
+
+      by-table : (b : Bool) → ownTable s r ≡ b → multiReport (normal s r .head) (normal s r .real) its ≡ normal s r
+      by-table true f =
+          let n = normal-is s r true f in
+          ap (λ (x : Report). multiReport (x .head) (x .real) its) n ∙ ap broughtHome e ∙ sym n
+      by-table false f =
+          let n = normal-is s r false f in
+          ap (λ (x : Report). multiReport (x .head) (x .real) its) n ∙ e ∙ sym n
+
+  pub reads-back : messageIn made ≡ gives (normal s r)
+  unfolding reportFits recordOf
+  reads-back = by-form (r .form) refl (and-right (realFits (r .form) (r .head) (r .real)) (fitsBy (r .form) r) fit)
+    where
+      by-form : (f : Form) → r .form ≡ f → fitsBy f r ≡ true → messageIn made ≡ gives (normal s r)
       by-form Single e h =
-          single-message (recordOf r s class expiry) (groups-back r s class expiry ∙ single-groups r e)
-          ∙ ap (λ (x : Head). gives (singleReport (r .duration) (r .diversion) x)) (head-back r s class expiry)
-          ∙ ap gives (single-is-report r sized (unfold fitsBy in h) e)
+          let n = single-normal s r e in
+          let real = and-left (realFits (r .form) (r .head) (r .real)) (fitsBy (r .form) r) fit in
+          single-message made (groups-back r s class expiry ∙ single-groups r e)
+          ∙ ap₂ (λ (x : Head) (y : ℕ). gives (withReal y (singleReport (r .duration) (r .diversion) x))) normal-head normal-real
+          ∙ ap (λ (x : Report). gives (withReal (x .real) (singleReport (r .duration) (r .diversion) (x .head)))) n
+          ∙ ap (λ (x : Report). gives (withReal (r .real) x)) (single-is-report r sized real (unfold fitsBy in h) e)
+          ∙ ap gives (sym n)
       by-form Multi e h =
           let its = listed (r .items) in
           let n = length (packing its) in
           let can = fit-writable (r .items) (report-items r fit) in
           let short = packable-short its (writable-packable its can) in
-          let many : groupsIn (recordOf r s class expiry) ≡ 1 → ⊥ = λ z. let g = multi-groups r e in let one : groups n ≡ 1 = sym g ∙ z in omega arith in
-          multi-message (recordOf r s class expiry) many
-          ∙ ap₂ (λ (x : Head) (l : List Bool). readBits x l) (head-back r s class expiry)
-          (ap₂ (λ (m : ℕ) (l : List ℕ). take (groupBits * (m - 1)) (flat 8 l)) (multi-groups r e) (content-back r s class expiry) ∙ padded-back its short)
-          ∙ unfold readBits in ap (mapped (multiReport (r .head))) (written-is-read its can)
-          ∙ ap gives (multi-is-report r sized (unfold fitsBy in h) e)
+          let many : groupsIn made ≡ 1 → ⊥ = λ z. let g = multi-groups r e in let one : groups n ≡ 1 = sym g ∙ z in omega arith in
+          let bits-are = ap₂ (λ (m : ℕ) (l : List ℕ). take (groupBits * (m - 1)) (flat 8 l)) (multi-groups r e) (content-back r s class expiry) ∙ padded-back its short in
+          multi-message made many
+          ∙ (λ i. readItems (normal-head i) (normal-real i) (bits-are i))
+          ∙ unfold readItems in ap (mapped (multiReport (normal s r .head) (normal s r .real))) (written-is-read [] its can short)
+          ∙ ap gives (multi-normal (multi-is-report r sized (unfold fitsBy in h) e))
 
   -- the whole reading: the report with its service and its expiry
-  pub reading-back : readingIn (recordOf r s class expiry) ≡ record { answer = Read; report = r; service = s; expiry = record { 0 = expiry } }
+  pub reading-back : readingIn made ≡ record { answer = Read; report = normal s r; service = s; expiry = record { 0 = expiry } }
   unfolding answered
   reading-back =
-      let used : byteAt (recordOf r s class expiry) 0 ≡ 0 → ⊥ = λ z. omega (arith, used-back r s class expiry) in
-      used-reading (recordOf r s class expiry) used
-      ∙ ap (λ (m : Outcome Report ℕ). answered m (serviceIn (recordOf r s class expiry)) (expiryIn (recordOf r s class expiry))) reads-back
-      ∙ ap₂ (λ (x : Service) (n : ℕ). answered (gives r) x n) (service-back r s class expiry) (expiry-back r s class expiry)
+      let used : byteAt made 0 ≡ 0 → ⊥ = λ z. omega (arith, used-back r s class expiry) in
+      used-reading made used
+      ∙ ap (λ (m : Outcome Report ℕ). answered m (serviceIn made) (expiryIn made)) reads-back
+      ∙ ap₂ (λ (x : Service) (n : ℕ). answered (gives (normal s r)) x n) (service-back r s class expiry) (expiry-back r s class expiry)

@@ -1,3 +1,4 @@
 pub mod Made
+pub mod Normal
 pub mod Reads
 pub mod Answers

@@ -1,15 +1,17 @@
--- The record of a report (document 01, "The message table").
+-- The record of a report (documents 01, "The message table", and 02, R-1).
 use Prim.Native.Nat.{ℕ, _/_, _%_}
 use mathlib.Core.Bool.{Bool, cond, _&&_}
 use mathlib.Core.List.{List, [], _∷_, _++_}
 use lib.Dec.{leb}
 use Rattle.word.specs.declared.Head.{Head}
 use Rattle.content.specs.Stored.{listed}
+use Rattle.location.specs.declared.Location.{Location}
 use Rattle.report.specs.declared.Report.{Report}
 use Rattle.report.specs.Fits.{reportFits}
 use Rattle.report.specs.Record.{bytesOf, groupsOf}
 use Rattle.record.specs.declared.Service.{Service}
 use Rattle.record.specs.Services.{serviceFits}
+use Rattle.record.specs.Locations.{locationOf}
 use Rattle.record.specs.Layout.{isRecord}
 use Rattle.record_report.specs.declared.Making.{Making}
 use Rattle.record_report.specs.declared.Making.the-variants.{Made, Refused}
@@ -18,25 +20,26 @@ use Rattle.record_report.specs.declared.Making.the-variants.{Made, Refus
 abbrev pub markBytes : ℕ → Service → List ℕ
 markBytes groups s = 1 ∷ groups ∷ s .sid ∷ s .ltn ∷ []
 
--- bytes 4 to 11: location, event, direction, extent, diversion, duration
-abbrev pub headBytes : Head → ℕ → ℕ → List ℕ
-headBytes h diversion duration = h .location % 256 ∷ h .location / 256 ∷ h .event % 256 ∷ h .event / 256 ∷ h .direction ∷ h .extent ∷ diversion ∷ duration ∷ []
+-- bytes 4 to 11: the location's code, event, direction, extent, diversion, duration
+abbrev pub headBytes : Location → Head → ℕ → ℕ → List ℕ
+headBytes l h diversion duration = l .code % 256 ∷ l .code / 256 ∷ h .event % 256 ∷ h .event / 256 ∷ h .direction ∷ h .extent ∷ diversion ∷ duration ∷ []
 
 -- bytes 12 to 15: when it ends
 abbrev pub expiryBytes : ℕ → List ℕ
 expiryBytes n = n % 256 ∷ n / 0x100 % 256 ∷ n / 0x1_0000 % 256 ∷ n / 0x100_0000 ∷ []
 
 -- bytes 0 to 15
-abbrev pub frontBytes : ℕ → Report → Service → ℕ → List ℕ
-frontBytes groups r s expiry = (markBytes groups s ++ headBytes (r .head) (r .diversion) (r .duration)) ++ expiryBytes expiry
+abbrev pub frontBytes : ℕ → Report → Service → Location → ℕ → List ℕ
+frontBytes groups r s l expiry = (markBytes groups s ++ headBytes l (r .head) (r .diversion) (r .duration)) ++ expiryBytes expiry
 
--- bytes 30 and 31: class and country
-abbrev pub tailBytes : ℕ → Service → List ℕ
-tailBytes class s = class ∷ s .country ∷ []
+-- bytes 30 to 33: class, country, country and LTN of the location
+abbrev pub tailBytes : ℕ → Service → Location → List ℕ
+tailBytes class s l = class ∷ s .country ∷ l .country ∷ l .ltn ∷ []
 
--- the record: the fewest groups for the report, its content zero filled, and its class
+-- the record: the fewest groups for the items, the report's location, the items zero filled, and the class
 unfoldable pub recordOf : Report → Service → (class expiry : ℕ) → List ℕ
-recordOf r s class expiry = frontBytes (groupsOf r) r s expiry ++ (bytesOf (listed (r .items)) ++ tailBytes class s)
+recordOf r s class expiry =
+    frontBytes (groupsOf r) r s (locationOf s r) expiry ++ (bytesOf (listed (r .items)) ++ tailBytes class s (locationOf s r))
 
 -- a service, an update class and an expiry that a record may have
 abbrev pub marksFit : Service → (class expiry : ℕ) → Bool

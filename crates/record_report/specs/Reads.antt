@@ -1,4 +1,4 @@
--- What a record says (document 01, "The message table").
+-- What a record says (documents 01, "The message table", and 02, R-1).
 use Prim.Native.Nat.{ℕ}
 use mathlib.Core.Bool.{cond, _&&_}
 use mathlib.Core.List.{List}
@@ -8,19 +8,23 @@ use Rattle.bits.specs.Fields.{flat}
 use Rattle.bits.specs.Outcome.{Outcome, gives, refused}
 use Rattle.report.specs.declared.Report.{Report}
 use Rattle.report.specs.Report.{singleReport, blank}
-use Rattle.report.specs.Read.{readBits}
+use Rattle.report.specs.Read.{readItems}
 use Rattle.record.specs.declared.Service.{Service}
-use Rattle.record.specs.Layout.{isRecord, isFree, groupsIn, headIn, durationIn, diversionIn, contentIn, serviceIn, expiryIn}
+use Rattle.record.specs.Layout.{isRecord, isFree, groupsIn, headIn, realIn, durationIn, diversionIn, contentIn, serviceIn, expiryIn}
 use Rattle.record.specs.WellFormed.{contentBits, wellFormed}
 use Rattle.record_report.specs.declared.Reading.{Reading}
 use Rattle.record_report.specs.declared.Answer.{Answer}
 use Rattle.record_report.specs.declared.Answer.the-variants.{Free, Read, Refused}
 
--- the message of a used record: a single-group report, or the head with the items of the content
+-- a report with a real location
+abbrev pub withReal : ℕ → Report → Report
+withReal real r = record { form = r .form; head = r .head; real = real; diversion = r .diversion; duration = r .duration; items = r .items }
+
+-- the message of a used record: a single-group report, or the head with the items of the content; each with the real location
 unfoldable pub messageIn : List ℕ → Outcome Report ℕ
 messageIn r =
-    cond (eqb (groupsIn r) 1) (gives (singleReport (durationIn r) (diversionIn r) (headIn r)))
-    (readBits (headIn r) (take (contentBits r) (flat 8 (contentIn r))))
+    cond (eqb (groupsIn r) 1) (gives (withReal (realIn r) (singleReport (durationIn r) (diversionIn r) (headIn r))))
+    (readItems (headIn r) (realIn r) (take (contentBits r) (flat 8 (contentIn r))))
 
 -- an answer with no report
 unfoldable pub nothing : Answer → Reading

@@ -3,6 +3,7 @@ ghost use mathlib.Core.Path.{_≡_};
 ghost use mathlib.Core.List.{_++_};
 ghost use lib.ListN.{length};
 ghost use Rattle.record.specs.Layout.{recordSize, contentIn};
+ghost use Rattle.record.specs.Locations.{locationOf};
 ghost use Rattle.record_report.specs.Made.{frontBytes, tailBytes, marksFit, makingIn, bytesMade};
 use crate::Making;
 use clock::Utc;
@@ -41,16 +42,17 @@ fn marks_fit(service: Service, class: u8, expiry: Utc) -> bool
 // Every byte but those of the content, from the first to the last.
 fn put_fields(r: &mut [u8], groups: u8, report: Report, service: Service, class: u8, expiry: Utc)
     requires { ⌜ length (now r) ≡ recordSize ⌝ }
-    ensures { λ _. ⌜ now (r .exit) ≡ frontBytes groups report service (expiry .0) ++ (contentIn (now (r .entry)) ++ tailBytes class service) ⌝ }
+    ensures { λ _. ⌜ now (r .exit) ≡ frontBytes groups report service (locationOf service report) (expiry .0) ++ (contentIn (now (r .entry)) ++ tailBytes class service (locationOf service report)) ⌝ }
 {
     let head = report.head;
+    let location = service.location_of(report);
     let end = expiry.0;
     r[Record::MARK] = 1;
     r[Record::GROUPS] = groups;
     r[Record::SID] = service.sid;
     r[Record::LTN] = service.ltn;
-    r[Record::LOCATION] = (head.location % 0x100) as u8;
-    r[Record::LOCATION + 1] = (head.location / 0x100) as u8;
+    r[Record::LOCATION] = (location.code % 0x100) as u8;
+    r[Record::LOCATION + 1] = (location.code / 0x100) as u8;
     r[Record::EVENT] = (head.event % 0x100) as u8;
     r[Record::EVENT + 1] = (head.event / 0x100) as u8;
     r[Record::DIRECTION] = head.direction;
@@ -63,4 +65,6 @@ fn put_fields(r: &mut [u8], groups: u8, report: Report, service: Service, class:
     r[Record::EXPIRY + 3] = (end / 0x100_0000) as u8;
     r[Record::CLASS] = class;
     r[Record::COUNTRY] = service.country;
+    r[Record::LOCATION_COUNTRY] = location.country;
+    r[Record::LOCATION_LTN] = location.ltn;
 }

@@ -7,7 +7,7 @@ ghost use Rattle.content.specs.Halves.{bitsOf};
 ghost use Rattle.content.specs.Packing.{longest};
 ghost use Rattle.report.specs.Read.{outcomeOf};
 ghost use Rattle.record.specs.Layout.{recordSize, groupsIn, contentIn};
-ghost use Rattle.record_report.specs.Reads.{messageIn, readingOf, nothing};
+ghost use Rattle.record_report.specs.Reads.{messageIn, readingOf, nothing, withReal};
 use crate::Answer;
 use crate::Reading;
 use bits::bytes::load;
@@ -17,6 +17,7 @@ use record::Record;
 use record::Service;
 use record::fields::expiry;
 use record::fields::head;
+use record::fields::real_location;
 use record::fields::service;
 use record::test::fits;
 use report::MessageReading;
@@ -75,14 +76,24 @@ fn message(r: &[u8]) -> MessageReading
 {
     let groups = r[Record::GROUPS] as usize;
     let head = head(r);
+    let real = real_location(r);
     if groups == 1 {
+        let single = Report::single(r[Record::DURATION], r[Record::DIVERSION], head);
         MessageReading {
             answer: report::Answer::Read,
-            report: Report::single(r[Record::DURATION], r[Record::DIVERSION], head),
+            report: with_real(single, real),
         }
     } else {
-        Report::multi(head, content(r), Content::GROUP * (groups - 1))
+        Report::with_items(head, real, content(r), Content::GROUP * (groups - 1))
     }
+}
+
+// The report with a real location.
+fn with_real(mut report: Report, real: u16) -> Report
+    ensures { λ x. ⌜ x ≡ withReal real report ⌝ }
+{
+    report.real = real;
+    report
 }
 
 // The content bits: eight bytes in the high half, and six at the top of the low half.

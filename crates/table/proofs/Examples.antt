@@ -4,14 +4,17 @@ use mathlib.Core.Path.{_≡_, refl}
 use mathlib.Core.List.{List, [], _∷_, _++_}
 use lib.IntN.{pos}
 use lib.ListN.{replicate}
-use Rattle.bits.specs.Bits.{bits, bit, num, allZero}
-use Rattle.bits.specs.Fields.{flat, fits}
+use Rattle.bits.specs.Bits.{bits, bit, num, val, allZero}
+use Rattle.bits.specs.Fields.{flat, fits, unpack}
 use Rattle.content.specs.Stored.{filled, wellPlaced, allZeroItems}
 use Rattle.content.specs.Packing.{zeroItem}
 use Rattle.report.specs.Report.{singleReport}
-use Rattle.report.specs.Fits.{singleFits, fitsBy, reportFits}
+use Rattle.location.specs.Flt.{fltFields, isFlt}
+use Rattle.report.specs.InterRoad.{interRoad, itemsAt}
+use Rattle.report.specs.Fits.{singleFits, fitsBy, realFits, reportFits}
 use Rattle.clock.specs.Time.{offsetFits}
 use Rattle.record.specs.Layout.{freeRecord}
+use Rattle.record.specs.Locations.{locationOf}
 use Rattle.record.specs.Matching.{matching}
 use Rattle.record.specs.Gone.{expired, freedIf}
 use Rattle.record.specs.WellFormed.{widths, within, rangesFit, marked, complete, restFits, wellFormed}
@@ -31,7 +34,7 @@ use Rattle.table.specs.Take.{matches, takeRefusal, takenStep, takeStep}
 
 -- a table of one record, which ends at minute 100
 abbrev pub until-100 : List ℕ
-until-100 = (1 ∷ 1 ∷ replicate 10 0) ++ (expiryBytes 100 ++ (replicate 14 0 ++ (1 ∷ 0 ∷ [])))
+until-100 = (1 ∷ 1 ∷ replicate 10 0) ++ (expiryBytes 100 ++ (replicate 14 0 ++ (1 ∷ 0 ∷ 0 ∷ 0 ∷ [])))
 
 pub stays-at-99 : (expireStep until-100 0 99 ≡ step 99 (Freed 0 0)) × (expireTable until-100 0 99 ≡ until-100)
 unfolding bit bits flat allZero num widths within rangesFit marked complete restFits wellFormed expired freedIf chunks records joined allOf countIf over countWhere sized tableFits expireRefusal expireStep expireTable
@@ -53,9 +56,9 @@ abbrev pub lives : List ℕ
 lives = replicate 16 60
 
 pub own-location : takeStep freeRecord catalogue lives 0 (arrival 0xFBFF) (pos 0) ≡ step 0 (Stored 0 0 0)
-unfolding bit bits flat allZero num widths within rangesFit marked complete restFits wellFormed expired matching freedIf chunks records joined allOf countIf firstOf over countWhere lowestFree sized tableFits entryFits catalogueFits livesFit fits offsetFits filled wellPlaced allZeroItems zeroItem singleFits fitsBy reportFits lentFit askedFit laterRefusal checkRefusal matches afterMatching matchedIn placeIn takeRefusal takenStep takeStep
+unfolding bit bits flat allZero num widths within rangesFit marked complete restFits wellFormed expired matching freedIf chunks records joined allOf countIf firstOf over countWhere lowestFree sized tableFits entryFits catalogueFits livesFit fits offsetFits filled wellPlaced allZeroItems zeroItem singleFits fitsBy reportFits lentFit isFlt fltFields unpack val locationOf interRoad itemsAt realFits askedFit laterRefusal checkRefusal matches afterMatching matchedIn placeIn takeRefusal takenStep takeStep
 own-location = refl
 
 pub foreign-location : takeStep freeRecord catalogue lives 0 (arrival 0xFC00) (pos 0) ≡ step 0 (Refused 12)
-unfolding bit bits flat allZero num widths within rangesFit marked complete restFits wellFormed expired matching freedIf chunks records joined allOf countIf firstOf over countWhere lowestFree sized tableFits entryFits catalogueFits livesFit fits offsetFits filled wellPlaced allZeroItems zeroItem singleFits fitsBy reportFits lentFit askedFit laterRefusal checkRefusal matches afterMatching matchedIn placeIn takeRefusal takenStep takeStep
+unfolding bit bits flat allZero num widths within rangesFit marked complete restFits wellFormed expired matching freedIf chunks records joined allOf countIf firstOf over countWhere lowestFree sized tableFits entryFits catalogueFits livesFit fits offsetFits filled wellPlaced allZeroItems zeroItem singleFits fitsBy reportFits lentFit isFlt fltFields unpack val locationOf interRoad itemsAt realFits askedFit laterRefusal checkRefusal matches afterMatching matchedIn placeIn takeRefusal takenStep takeStep
 foreign-location = refl

@@ -20,6 +20,7 @@ use Rattle.record.specs.Gone.{expired, either, freedIf}
 use Rattle.record.specs.WellFormed.{wellFormed}
 use Rattle.record.proofs.FreeFits.{free-fits}
 use Rattle.record_report.specs.declared.Answer.the-variants.{Read}
+use Rattle.record_report.specs.Normal.{normal}
 use Rattle.record_report.specs.Reads.{readingIn}
 use Rattle.record_report.proofs.MadeFields.{groups-back, made-matches}
 use Rattle.record_report.proofs.WayBack.{reading-back}
@@ -156,8 +157,8 @@ module _ (t c l : List ℕ) (last : ℕ) (a : Arrival) (lto : ℤ) where
           let new : num (match (recordFor c l a lto)) ≡ 1 = ap num own in
           ap (countIf match) stored-records ∙ omega (arith, count-set match freed place (recordFor c l a lto) freeRecord room, none-left, old, new)
 
-      -- and reads back as that report, with its service and its expiry
-      pub stored-reads : length (a .report .items .places) ≡ limit → recordAt after place ≡ record { answer = Read; report = a .report; service = a .service; expiry = record { 0 = expiryFor c l a lto } }
+      -- and reads back as that report in its normal form, with its service and its expiry
+      pub stored-reads : length (a .report .items .places) ≡ limit → recordAt after place ≡ record { answer = Read; report = normal (a .service) (a .report); service = a .service; expiry = record { 0 = expiryFor c l a lto } }
       unfolding recordAt
       stored-reads sized =
           let within : leb (length after / recordSize) place ≡ false = lt-leb (length after / recordSize) place (subst (λ (n : ℕ). place < n / recordSize) (sym same-length) (inside t c l last a lto fine is-1)) in

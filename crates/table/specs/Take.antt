@@ -5,11 +5,12 @@ use mathlib.Core.List.{List}
 use lib.IntN.{ℤ}
 use lib.Dec.{eqb}
 use Rattle.record.specs.declared.Key.{Key}
+use Rattle.record.specs.Locations.{locationOf}
 use Rattle.record.specs.Matching.{matching}
 use Rattle.record_report.specs.Made.{recordOf}
 use Rattle.checks.specs.declared.Arrival.{Arrival}
 use Rattle.checks.specs.Events.{kindFor, classFor, expiryFor}
-use Rattle.checks.specs.Checks.{locationOf, checkRefusal}
+use Rattle.checks.specs.Checks.{checkRefusal}
 use Rattle.table.specs.declared.Step.{Step}
 use Rattle.table.specs.declared.Answer.the-variants.{Freed, Stored, Refused}
 use Rattle.table.specs.Steps.{step, expiredIn, afterMatching, matchedIn, placeIn, noRoom, afterStoring}
@@ -17,7 +18,7 @@ use Rattle.table.specs.Steps.{step, expiredIn, afterMatching, matchedIn,
 -- service, location, direction and update class of the first event
 abbrev pub keyOf : List ℕ → Arrival → Key
 keyOf catalogue a =
-    record { service = a .service; location = locationOf (a .report); direction = a .report .head .direction; class = classFor catalogue (a .report) }
+    record { service = a .service; location = locationOf (a .service) (a .report); direction = a .report .head .direction; class = classFor catalogue (a .report) }
 
 -- the records that match, for an event of kind 1 or 2
 unfoldable pub matches : ℕ → Key → List ℕ → Bool

@@ -25,7 +25,6 @@ use clock::Utc;
 use lent::Lent;
 use lent::catalogue::Entry;
 use record::Key;
-use record::Location;
 use record::Record;
 use record::Service;
 use record_report::make::put;
@@ -35,7 +34,7 @@ impl Table {
     // Takes a report of a service at a minute with a local time offset: frees the expired records and, for an ordinary or a cancelling
     // event, the matching ones, and stores the report of an ordinary event in the lowest-numbered free record. Refused, in this order: a
     // malformed table, catalogue or lives (10), an unfit report, service or offset (9), a minute below the last one or too large (13), a
-    // foreign location (12), an unknown event (11), no room (14). A refusal changes nothing.
+    // location whose code is an FLT code (12), an unknown event (11), no room (14). A refusal changes nothing.
     pub fn take(
         t: &mut [u8],
         catalogue: &[u16],
@@ -77,9 +76,7 @@ fn take_checked(
         return free_expired(t, minute);
     }
     let service = arrival.service;
-    let location = Location {
-        code: head.location,
-    };
+    let location = service.location_of(report);
     let key = Key {
         service,
         location,

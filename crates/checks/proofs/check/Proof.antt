@@ -1,12 +1,13 @@
 -- The refusals in their order.
-use mathlib.Core.Path.{refl, sym, ap, _∙_}
+use mathlib.Core.Path.{refl, sym, ap, ap₂, _∙_}
 use mathlib.Core.Bool.{true, false}
 use native.Mathlib.Omega.{arith}
 use borrow.Author.Tests.{not-true, not-false}
 use mir.Syntax.{w8}
 use mir.ValLaws.{toZ-ofZ}
 use Prim.Native.Nat.{ℕ}
-use Rattle.checks.specs.Checks.{locationOf, askedFit, laterRefusal}
+use Rattle.location.specs.declared.Location.{Location}
+use Rattle.checks.specs.Checks.{askedFit, laterRefusal}
 use Rattle.checks.proofs.InOrder.{checks-in-order}
 use Rattle.checks.proofs.Checked.{event-inside}
 use borrow.Author.Needs.{needs}
@@ -34,11 +35,15 @@ event c =
 
 returns-3 : tie.Need-returns-3
 returns-3 c =
-    let start = c .before .before .before .before .before .before .before .before .before .before .before .before .before .before .before in
+    let at-asked = c .before .before .before .before .before .before .before .before in
+    let at-lent = at-asked .before .before .before .before in
+    let start = at-lent .before .before .before .before in
     let a = start .args in
-    let lent = sym (c .before .before .before .before .before .before .before .before .before .before .before .lent-fit .ensures) ∙ not-false _ (c .before .before .before .before .before .before .before .before .before .before .if1 .left) in
-    let asked = ap (askedFit (a .arrival .report) (a .arrival .service)) (sym (toZ-ofZ w8 (a .lto) (start .fits .lto))) ∙ sym (c .before .before .before .before .before .before .before .asked-fit .ensures) ∙ not-false _ (c .before .before .before .before .before .before .if2 .left) in
-    c .later-refusal .ensures ∙ ap (λ (n : ℕ). laterRefusal (a .last .0) (a .arrival .minute .0) (locationOf (a .arrival .report)) n) (c .before .kind .ensures) ∙ sym (checks-in-order _ _ _ (a .last .0) (a .arrival) (a .lto) true true lent asked)
+    let lent = sym (at-lent .lent-fit .ensures) ∙ not-false _ (at-asked .before .before .before .if1 .left) in
+    let asked = ap (askedFit (a .arrival .report) (a .arrival .service)) (sym (toZ-ofZ w8 (a .lto) (start .fits .lto))) ∙ sym (at-asked .asked-fit .ensures) ∙ not-false _ (c .before .before .before .before .before .before .before .if2 .left) in
+    c .later-refusal .ensures
+    ∙ ap₂ (λ (l : Location) (n : ℕ). laterRefusal (a .last .0) (a .arrival .minute .0) (l .code) n) (c .before .before .location-of .ensures) (c .before .kind .ensures)
+    ∙ sym (checks-in-order _ _ _ (a .last .0) (a .arrival) (a .lto) true true lent asked)
 
 pub check-spec : {M : Type 1} → statement M
-check-spec = tie.close (tie.spec (search needs) returns (search needs) returns-2 (search needs) (search needs) event (search needs) (search needs) returns-3)
+check-spec = tie.close (tie.spec (search needs) returns (search needs) returns-2 (search needs) (search needs) event (search needs) (search needs) (search needs) returns-3)

@@ -12,6 +12,7 @@ use Rattle.report.specs.declared.Report.{Report}
 use Rattle.report.specs.Fits.{reportFits}
 use Rattle.report.specs.Record.{bytesOf}
 use Rattle.record.specs.declared.Service.{Service}
+use Rattle.record.specs.Locations.{locationOf}
 use Rattle.record.specs.Layout.{recordSize, contentIn}
 use Rattle.record_report.specs.Made.{frontBytes, tailBytes, recordOf}
 use Rattle.record_report.proofs.Filling.{length-content, part-kept, content-put}
@@ -23,10 +24,10 @@ use Rattle.record_report.proofs.make.put.Tie as tie
 
 -- the content as it was stored, between the other bytes
 parts : (r : Report) (s : Service) (class expiry n g : ℕ) (xs l its : List ℕ) → n ≡ g → l ≡ its → length xs ≡ recordSize → length its ≡ 14
-    → frontBytes n r s expiry ++ (contentIn (putMid 16 14 xs l) ++ tailBytes class s) ≡ frontBytes g r s expiry ++ (its ++ tailBytes class s)
+    → frontBytes n r s (locationOf s r) expiry ++ (contentIn (putMid 16 14 xs l) ++ tailBytes class s (locationOf s r)) ≡ frontBytes g r s (locationOf s r) expiry ++ (its ++ tailBytes class s (locationOf s r))
 parts r s class expiry n g xs l its e f long size =
-    ap₂ (λ (m : ℕ) (b : List ℕ). frontBytes m r s expiry ++ (contentIn (putMid 16 14 xs b) ++ tailBytes class s)) e f
-    ∙ ap (λ (b : List ℕ). frontBytes g r s expiry ++ (b ++ tailBytes class s)) (content-put xs its long size)
+    ap₂ (λ (m : ℕ) (b : List ℕ). frontBytes m r s (locationOf s r) expiry ++ (contentIn (putMid 16 14 xs b) ++ tailBytes class s (locationOf s r))) e f
+    ∙ ap (λ (b : List ℕ). frontBytes g r s (locationOf s r) expiry ++ (b ++ tailBytes class s (locationOf s r))) (content-put xs its long size)
 
 returns : tie.Need-returns
 returns c = let a = c .before .before .args in not-a-record (a .r .now) (a .report) (a .service) (a .class) (a .expiry .0) (c .if1 .taken)

@@ -13,6 +13,7 @@ use Rattle.clock.specs.declared.Expiry.{Expiry}
 use Rattle.clock.specs.declared.Expiry.the-variants as expiry
 use Rattle.clock.specs.Expiry.{expiryAnswer}
 use Rattle.clock.specs.Answers.{minuteOf}
+use Rattle.location.specs.declared.Location.{Location}
 use Rattle.record.specs.declared.Key.{Key}
 use Rattle.record.specs.Matching.{matching}
 use Rattle.record_report.specs.Made.{recordOf, canMake}
@@ -20,7 +21,6 @@ use Rattle.lent.specs.Catalogue.{typeOf}
 use Rattle.lent.proofs.Lents.{lent-whole}
 use Rattle.checks.specs.declared.Arrival.{Arrival}
 use Rattle.checks.specs.Events.{entryFor, kindFor, expiryFor}
-use Rattle.checks.specs.Checks.{locationOf}
 use Rattle.checks.proofs.Checked.{Checked, checked, event-inside, life-inside, expiry-is, kinds}
 use Rattle.table.specs.declared.Answer.the-variants.{Freed, Stored, Refused}
 use Rattle.table.specs.Steps.{step, expiredIn, afterMatching, matchedIn, placeIn, noRoom, afterStoring}
@@ -30,9 +30,9 @@ use borrow.Author.Needs.{needs}
 use Rattle.table.proofs.take.take_checked.Statement.{statement}
 use Rattle.table.proofs.take.take_checked.Tie as tie
 
--- what the event's class is
-abbrev keyWith : Arrival → ℕ → Key
-keyWith v class = record { service = v .service; location = locationOf (v .report); direction = v .report .head .direction; class = class }
+-- what a report is matched by, with its location and its class
+abbrev keyWith : Arrival → Location → ℕ → Key
+keyWith v location class = record { service = v .service; location = location; direction = v .report .head .direction; class = class }
 
 event : tie.Need-shared-slice-read-life
 event c =
@@ -57,26 +57,27 @@ returns c =
 
 whole-2 : tie.Need-take-cancelling-requires
 whole-2 c κs =
-    let s = c .before .before .before .before .before .before .before .before .before .before .before .before .before .before in
+    let s = c .before .before .before .before .before .before .before .before .before .before .before .before .before .before .before in
     let a = s .args in
     lent-whole (a .t .now) (a .catalogue .now) (a .lives .now) (checked (a .t .now) (a .catalogue .now) (a .lives .now) (a .last .0) (a .arrival) (a .lto) (s .pre) .lent)
 
 returns-2 : tie.Need-returns-2
 returns-2 c =
-    let s = c .before .before .before .before .before .before .before .before .before .before .before .before .before .before .before .before .before in
+    let s = c .before .before .before .before .before .before .before .before .before .before .before .before .before .before .before .before .before .before in
     let a = s .args in
     let t = a .t .now in
-    let m = a .arrival .minute .0 in
-    let way = cancelling-way t (a .catalogue .now) (a .lives .now) (a .last .0) (a .arrival) (a .lto) (s .pre) (lent-whole t (a .catalogue .now) (a .lives .now) (checked t (a .catalogue .now) (a .lives .now) (a .last .0) (a .arrival) (a .lto) (s .pre) .lent)) (sym (c .before .before .before .before .before .before .before .before .kind .ensures) ∙ c .before .before .before .before .if2 .taken) in
+    let v = a .arrival in
+    let m = v .minute .0 in
+    let way = cancelling-way t (a .catalogue .now) (a .lives .now) (a .last .0) v (a .lto) (s .pre) (lent-whole t (a .catalogue .now) (a .lives .now) (checked t (a .catalogue .now) (a .lives .now) (a .last .0) v (a .lto) (s .pre) .lent)) (sym (c .before .before .before .before .before .before .before .before .before .kind .ensures) ∙ c .before .before .before .before .if2 .taken) in
     let f = c .before .before .take-cancelling .ensures in
-    let class = c .before .before .before .before .before .class .ensures in (
-      f .0 ∙ ap (λ (n : ℕ). step m (Freed (expiredIn m t) (matchedIn m (matching (keyWith (a .arrival) n)) t))) class ∙ way .0,
-      f .1 ∙ ap (λ (n : ℕ). afterMatching m (matching (keyWith (a .arrival) n)) t) class ∙ way .1,
+    let key = ap₂ (keyWith v) (c .before .before .before .before .before .before .location-of .ensures) (c .before .before .before .before .before .class .ensures) in (
+      f .0 ∙ ap (λ (k : Key). step m (Freed (expiredIn m t) (matchedIn m (matching k) t))) key ∙ way .0,
+      f .1 ∙ ap (λ (k : Key). afterMatching m (matching k) t) key ∙ way .1,
     )
 
 life : tie.Need-shared-slice-read-life-2
 life c =
-    let s = c .before .before .before .before .before .before .before .before .before .before .before .before .before .before .before .before in
+    let s = c .before .before .before .before .before .before .before .before .before .before .before .before .before .before .before .before .before in
     let a = s .args in
     let ok = checked (a .t .now) (a .catalogue .now) (a .lives .now) (a .last .0) (a .arrival) (a .lto) (s .pre) in
     omega (arith, c .before .before .duration-type .ensures, life-inside (a .t .now) (a .catalogue .now) (a .lives .now) (a .last .0) (a .arrival) (a .lto) ok)
@@ -98,10 +99,10 @@ take-ordinary-requires : tie.Need-take-ordinary-requires
 take-ordinary-requires c κs =
     let x = c .before .before .before .before in
     let y = x .before in
-    let s = y .before .before .before .before .before .before .before .before .before .before .before .before .before .before .before .before in
+    let s = y .before .before .before .before .before .before .before .before .before .before .before .before .before .before .before .before .before in
     let a = s .args in
     let ok = checked (a .t .now) (a .catalogue .now) (a .lives .now) (a .last .0) (a .arrival) (a .lto) (s .pre) in
-    let is-1 = is-ordinary (a .t .now) (a .catalogue .now) (a .lives .now) (a .last .0) (a .arrival) (a .lto) _ ok (y .before .before .before .before .before .before .before .kind .ensures) (y .before .before .before .before .before .before .if1 .left) (y .before .before .before .if2 .left) in
+    let is-1 = is-ordinary (a .t .now) (a .catalogue .now) (a .lives .now) (a .last .0) (a .arrival) (a .lto) _ ok (y .before .before .before .before .before .before .before .before .kind .ensures) (y .before .before .before .before .before .before .before .if1 .left) (y .before .before .before .if2 .left) in
     let told = clock-told (a .t .now) (a .catalogue .now) (a .lives .now) (a .last .0) (a .arrival) (a .lto) _ _ _ ok (toZ-ofZ w8 (a .lto) (s .fits .lto)) (y .before .before .duration-type .ensures) (x .expiry .ensures) in
     let e = ap minuteOf (sym (c .before .before .expiry2 .given .1) ∙ told) in (
       lent-whole (a .t .now) (a .catalogue .now) (a .lives .now) (ok .lent),
@@ -112,29 +113,29 @@ returns-3 : tie.Need-returns-3
 returns-3 c =
     let x = c .before .before .before .before .before .before .before in
     let y = x .before in
-    let s = y .before .before .before .before .before .before .before .before .before .before .before .before .before .before .before .before in
+    let s = y .before .before .before .before .before .before .before .before .before .before .before .before .before .before .before .before .before in
     let a = s .args in
     let t = a .t .now in
     let v = a .arrival in
     let m = v .minute .0 in
     let ok = checked t (a .catalogue .now) (a .lives .now) (a .last .0) v (a .lto) (s .pre) in
-    let is-1 = is-ordinary t (a .catalogue .now) (a .lives .now) (a .last .0) v (a .lto) _ ok (y .before .before .before .before .before .before .before .kind .ensures) (y .before .before .before .before .before .before .if1 .left) (y .before .before .before .if2 .left) in
+    let is-1 = is-ordinary t (a .catalogue .now) (a .lives .now) (a .last .0) v (a .lto) _ ok (y .before .before .before .before .before .before .before .before .kind .ensures) (y .before .before .before .before .before .before .before .if1 .left) (y .before .before .before .if2 .left) in
     let told = clock-told t (a .catalogue .now) (a .lives .now) (a .last .0) v (a .lto) _ _ _ ok (toZ-ofZ w8 (a .lto) (s .fits .lto)) (y .before .before .duration-type .ensures) (x .expiry .ensures) in
     let e = ap minuteOf (sym (c .before .before .before .before .before .expiry2 .given .1) ∙ told) in
     let way = ordinary-way t (a .catalogue .now) (a .lives .now) (a .last .0) v (a .lto) (s .pre) (lent-whole t (a .catalogue .now) (a .lives .now) (ok .lent)) is-1 in
     let f = c .before .before .take-ordinary .ensures in
-    let class = y .before .before .before .before .class .ensures in (
+    let key = ap₂ (keyWith v) (y .before .before .before .before .before .location-of .ensures) (y .before .before .before .before .class .ensures) in (
       f .0
-          ∙ ap (λ (n : ℕ). cond (noRoom m (matching (keyWith v n)) t) (step (a .last .0) (Refused 14)) (step m (Stored (expiredIn m t) (matchedIn m (matching (keyWith v n)) t) (placeIn m (matching (keyWith v n)) t)))) class
+          ∙ ap (λ (k : Key). cond (noRoom m (matching k) t) (step (a .last .0) (Refused 14)) (step m (Stored (expiredIn m t) (matchedIn m (matching k) t) (placeIn m (matching k) t)))) key
           ∙ way .0,
-      f .1 ∙ ap₂ (λ (n y : ℕ). cond (noRoom m (matching (keyWith v n)) t) t (afterStoring m (matching (keyWith v n)) (recordOf (v .report) (v .service) n y) t)) class e ∙ way .1,
+      f .1 ∙ ap₂ (λ (k : Key) (n : ℕ). cond (noRoom m (matching k) t) t (afterStoring m (matching k) (recordOf (v .report) (k .service) (k .class) n) t)) key e ∙ way .1,
     )
 
 returns-4 : tie.Need-returns-4
 returns-4 c =
     let x = c .before .before .before .before in
     let y = x .before in
-    let s = y .before .before .before .before .before .before .before .before .before .before .before .before .before .before .before .before in
+    let s = y .before .before .before .before .before .before .before .before .before .before .before .before .before .before .before .before .before in
     let a = s .args in
     let ok = checked (a .t .now) (a .catalogue .now) (a .lives .now) (a .last .0) (a .arrival) (a .lto) (s .pre) in
     let told = clock-told (a .t .now) (a .catalogue .now) (a .lives .now) (a .last .0) (a .arrival) (a .lto) _ _ _ ok (toZ-ofZ w8 (a .lto) (s .fits .lto)) (y .before .before .duration-type .ensures) (x .expiry .ensures) in
@@ -151,6 +152,7 @@ take-checked-spec =
     whole
     (search needs)
     returns
+    (search needs)
     (search needs)
     whole-2
     (search needs)
