@@ -61,6 +61,8 @@ static void rest_untouched(int line, const char *what, const void *buffer, size_
 #define FIRST_401 UINT64_C(0x02899101F4)
 #define LATER_401 UINT64_C(0x0243502000)
 #define STRAY_401 UINT64_C(0x0343502000)
+#define SINGLE_FOREIGN UINT64_C(0x0B5065FF41)
+#define FIRST_FOREIGN UINT64_C(0x028991FF41)
 
 static struct alertc_report report_101(void) {
     struct alertc_report r = ALERTC_REPORT_INIT;
@@ -87,12 +89,32 @@ static struct alertc_report report_401(void) {
     return r;
 }
 
+/* INTER-ROAD: the same at 500 of country 13's location table 1. */
+static struct alertc_report report_foreign(void) {
+    struct alertc_report r = report_401();
+    r.location = 0xFF41;
+    r.real_location = 500;
+    return r;
+}
+
+/* A multi-group report with this many items of label 14, and nothing else in its content. */
+static struct alertc_report with_items_14(struct alertc_report r, size_t count) {
+    memset(r.items, 0, sizeof r.items);
+    for (size_t i = 0; i < count; i++) {
+        r.items[i].label = 14;
+    }
+    r.item_count = count;
+    r.duration = 0;
+    return r;
+}
+
 #define SAME_REPORT(found, expected) same_report(__LINE__, found, expected)
 
 static void same_report(int line, struct alertc_report found, struct alertc_report expected) {
     same(line, "form", found.form, expected.form);
     same(line, "event", found.event, expected.event);
     same(line, "location", found.location, expected.location);
+    same(line, "real_location", found.real_location, expected.real_location);
     same(line, "direction", found.direction, expected.direction);
     same(line, "extent", found.extent, expected.extent);
     same(line, "diversion", found.diversion, expected.diversion);
@@ -372,10 +394,7 @@ static void assembler(void) {
     full.extent = 4;
     full.event = 101;
     full.location = 0x1234;
-    full.item_count = ALERTC_ITEMS;
-    for (size_t i = 0; i < ALERTC_ITEMS; i++) {
-        full.items[i].label = 14;
-    }
+    full = with_items_14(full, ALERTC_ITEMS);
     a = alertc_assembler_step(state, groups[4]);
     SAME(a.kind, ALERTC_ANSWER_REPORT);
     SAME_REPORT(a.report, full);
@@ -394,6 +413,150 @@ static void assembler(void) {
     SAME(a.refusal, ALERTC_REFUSED_UNFIT);
     SAME(a.kind, ALERTC_ANSWER_NOTHING);
     SAME_STATE(a.next, unreached);
+}
+
+#define SAME_MESSAGE(report, ci, words, count) same_message(__LINE__, report, ci, words, count)
+
+/* A report is written as these words, and an empty assembler reads it from them. */
+static void same_message(int line, struct alertc_report report, uint8_t ci, const uint64_t *words,
+                         size_t count) {
+    const struct alertc_assembler empty = ALERTC_ASSEMBLER_INIT;
+    uint64_t written[ALERTC_MESSAGE_WORDS];
+    TOUCH_NONE(written);
+    struct alertc_written w = alertc_report_write(report, ci, written, ALERTC_MESSAGE_WORDS);
+    same(line, "refusal", w.refusal, ALERTC_ACCEPTED);
+    same(line, "count", w.count, count);
+    rest_untouched(line, "rest", written, count * sizeof written[0], sizeof written);
+
+    struct alertc_assembler state = empty;
+    for (size_t i = 0; i < count; i++) {
+        struct alertc_assembler_answer a = alertc_assembler_step(state, words[i]);
+        same(line, "word", written[i], words[i]);
+        same(line, "refusal", a.refusal, ALERTC_ACCEPTED);
+        same(line, "kind", a.kind, i + 1 < count ? ALERTC_ANSWER_NOTHING : ALERTC_ANSWER_REPORT);
+        if (a.kind == ALERTC_ANSWER_REPORT) {
+            same_report(line, a.report, report);
+        }
+        state = a.next;
+    }
+    same_state(line, state, empty);
+}
+
+/* What the writer refuses a report with, where index and room fit. */
+static uint8_t write_refusal(struct alertc_report report) {
+    uint64_t words[ALERTC_MESSAGE_WORDS];
+    TOUCH_NONE(words);
+    struct alertc_written w = alertc_report_write(report, report.form == ALERTC_MULTI_GROUP ? 2 : 0,
+                                                  words, ALERTC_MESSAGE_WORDS);
+    SAME(w.count, 0);
+    REST_UNTOUCHED(words, 0);
+    return w.refusal;
+}
+
+/* ISO 14819-1, 6.7.2: the real location is the first 16 bits of the second group's content. */
+static void inter_road(void) {
+    SAME(ALERTC_FLT_CODE(0, 0), ALERTC_FLT_CODES);
+    SAME(ALERTC_FLT_CODE(13, 1), 0xFF41);
+    SAME(ALERTC_FLT_CODE(1, 9), 0xFC49);
+    SAME(ALERTC_FLT_CODE(15, 63), 0xFFFF);
+    SAME(alertc_flt_country(0xFF41), 13);
+    SAME(alertc_flt_ltn(0xFF41), 1);
+    SAME(alertc_flt_country(0xFC49), 1);
+    SAME(alertc_flt_ltn(0xFC49), 9);
+    SAME(alertc_flt_country(0xFFFD), 15);
+    SAME(alertc_flt_ltn(0xFFFD), 61);
+
+    /* Two items: the second one goes on in a third group. */
+    const uint64_t two_items[] = {FIRST_FOREIGN, UINT64_C(0x02501F4350), UINT64_C(0x0202000000)};
+    SAME_MESSAGE(report_foreign(), 2, two_items, 3);
+
+    /* An item (0,2), and none. */
+    struct alertc_report r = report_foreign();
+    r.items[0] = r.items[1];
+    memset(&r.items[1], 0, sizeof r.items[1]);
+    r.item_count = 1;
+    const uint64_t one_item[] = {FIRST_FOREIGN, UINT64_C(0x02401F4040)};
+    SAME_MESSAGE(r, 2, one_item, 2);
+    r = with_items_14(report_foreign(), 0);
+    const uint64_t no_items[] = {FIRST_FOREIGN, UINT64_C(0x02401F4000)};
+    SAME_MESSAGE(r, 2, no_items, 2);
+
+    /* Any code may stand there: 0, an FLT code. */
+    const uint64_t real_0[] = {FIRST_FOREIGN, UINT64_C(0x0240000000)};
+    r.real_location = 0;
+    SAME_MESSAGE(r, 2, real_0, 2);
+    const uint64_t real_flt[] = {FIRST_FOREIGN, UINT64_C(0x024FC00000)};
+    r.real_location = 0xFC00;
+    SAME_MESSAGE(r, 2, real_flt, 2);
+
+    /* The highest codes are FLT codes too, and what would be items at home is a real location. */
+    const uint64_t highest[] = {UINT64_C(0x028991FFFD), LATER_401};
+    r.location = 0xFFFD;
+    r.real_location = 0x3502;
+    SAME_MESSAGE(r, 2, highest, 2);
+
+    /* The lowest FLT code, and the code below it, which is at home. */
+    const uint64_t lowest[] = {UINT64_C(0x028991FC00), UINT64_C(0x0240001000)};
+    r.location = 0xFC00;
+    r.real_location = 1;
+    SAME_MESSAGE(r, 2, lowest, 2);
+    const uint64_t below[] = {UINT64_C(0x028991FBFF), UINT64_C(0x0240001000)};
+    r.location = 0xFBFF;
+    SAME(write_refusal(r), ALERTC_REFUSED_UNFIT);
+    r.real_location = 0;
+    r.item_count = 3;
+    r.items[2].label = 4; /* after (0,0) and (0,0) */
+    SAME_MESSAGE(r, 2, below, 2);
+
+    /* 96 bits of items fill five groups. At home 100 bits fit. */
+    const uint64_t full[ALERTC_MESSAGE_WORDS] = {FIRST_FOREIGN, UINT64_C(0x02701F4EEE),
+                                                 UINT64_C(0x022EEEEEEE), UINT64_C(0x021EEEEEEE),
+                                                 UINT64_C(0x020EEEEEEE)};
+    SAME_MESSAGE(with_items_14(report_foreign(), 24), 2, full, ALERTC_MESSAGE_WORDS);
+    SAME(write_refusal(with_items_14(report_foreign(), 25)), ALERTC_REFUSED_UNFIT);
+    const uint64_t at_home[ALERTC_MESSAGE_WORDS] = {FIRST_401, UINT64_C(0x027EEEEEEE),
+                                                    UINT64_C(0x022EEEEEEE), UINT64_C(0x021EEEEEEE),
+                                                    UINT64_C(0x020EEEE000)};
+    SAME_MESSAGE(with_items_14(report_401(), 25), 2, at_home, ALERTC_MESSAGE_WORDS);
+
+    /* A single-group report with an FLT code is read and written. It has no real location. */
+    const uint64_t single[] = {SINGLE_FOREIGN};
+    r = report_101();
+    r.location = 0xFF41;
+    SAME_MESSAGE(r, 0, single, 1);
+    r.real_location = 500;
+    SAME(write_refusal(r), ALERTC_REFUSED_UNFIT);
+    r.location = 12345;
+    SAME(write_refusal(r), ALERTC_REFUSED_UNFIT);
+    r = report_401();
+    r.real_location = 500;
+    SAME(write_refusal(r), ALERTC_REFUSED_UNFIT);
+
+    /* Label 10 with eight bits left, label 15. */
+    const struct alertc_assembler empty = ALERTC_ASSEMBLER_INIT;
+    struct alertc_assembler opened = alertc_assembler_step(empty, FIRST_FOREIGN).next;
+    struct alertc_assembler_answer a = alertc_assembler_step(opened, UINT64_C(0x02401F4AFF));
+    SAME(a.refusal, ALERTC_REFUSED_CONTENT);
+    SAME(a.report.real_location, 0);
+    SAME_STATE(a.next, empty);
+    a = alertc_assembler_step(opened, UINT64_C(0x02401F4F00));
+    SAME(a.refusal, ALERTC_REFUSED_LABEL_15);
+    SAME_STATE(a.next, empty);
+
+    /* A data unit's writer reads its words in the same way: TMCHI 0, Short ID 5, real_flt. */
+    const uint8_t bytes[] = {0x14, 0x51, 0x32, 0x3F, 0xE8, 0x22,
+                             0x4F, 0xC0, 0x00, 0x00, 0x8C, 0xB7};
+    const uint64_t refused[] = {FIRST_FOREIGN, UINT64_C(0x02401F4AFF)};
+    struct alertc_drm_unit unit;
+    memset(&unit, 0, sizeof unit);
+    unit.short_id = 5;
+    uint8_t out[ALERTC_DRM_UNIT_BYTES];
+    TOUCH_NONE(out);
+    SAME(alertc_drm_write(unit, refused, 2, out, sizeof out).refusal, ALERTC_REFUSED_UNFIT);
+    REST_UNTOUCHED(out, 0);
+    SAME(alertc_drm_write(unit, real_flt, 2, out, sizeof out).count, sizeof bytes);
+    SAME_BYTES(out, bytes, sizeof bytes);
+    REST_UNTOUCHED(out, sizeof bytes);
 }
 
 static void rds(void) {
@@ -586,10 +749,12 @@ static void table(void) {
 
     /* Life 60; then life 0, which ends at midnight: local time is an hour ahead. */
     const uint8_t records[PLACES * ALERTC_RECORD_BYTES] = {
-        1,    1,    37, 17, 0x39, 0x30, 101,  0, 1, 2, 0, 3, 160,  0,    0, 0,
-        0,    0,    0,  0,  0,    0,    0,    0, 0, 0, 0, 0, 0,    0,    1, 1,
-        1,    2,    37, 17, 0xF4, 0x01, 0x91, 1, 0, 1, 0, 2, 0x64, 0x05, 0, 0,
-        0x35, 0x02, 0,  0,  0,    0,    0,    0, 0, 0, 0, 0, 0,    0,    5, 1};
+        1,    1,    37, 17, 0x39, 0x30, 101,  0, 1, 2, 0, 3, 160,  0,    0, 0, /* to the expiry */
+        0,    0,    0,  0,  0,    0,    0,    0, 0, 0, 0, 0, 0,    0,          /* content */
+        1,    1,    1,  17, /* class, country, the location's country and LTN */
+        1,    2,    37, 17, 0xF4, 0x01, 0x91, 1, 0, 1, 0, 2, 0x64, 0x05, 0, 0, /* the other one */
+        0x35, 0x02, 0,  0,  0,    0,    0,    0, 0, 0, 0, 0, 0,    0, /* items (3,10), (0,2) */
+        5,    1,    1,  17};
     struct alertc_table_answer t =
         alertc_table_take(bytes, sizeof bytes, catalogue, ALERTC_EVENTS, lives, ALERTC_LIVES,
                           &clock, report_101(), service, 100, 0);
@@ -621,7 +786,7 @@ static void table(void) {
                          elsewhere = report_101();
     struct alertc_service unfit = service;
     unknown.event = 102;
-    foreign.location = ALERTC_FOREIGN_LOCATION;
+    foreign.location = ALERTC_FLT_CODES;
     other.form = 2;
     elsewhere.location = 0xFBFF;
     unfit.sid = 64;
@@ -718,6 +883,162 @@ static void table(void) {
     SAME(alertc_expiry(ALERTC_LARGEST_MINUTE + 1, 31, 0).refusal, ALERTC_REFUSED_MINUTE);
 }
 
+/* A table at the border, with room for three records, and its clock. */
+static uint8_t border_table[3 * ALERTC_RECORD_BYTES];
+static uint32_t border_clock;
+
+/* It takes a report of the service with SID 3 in country 13, whose location table is 17. */
+static struct alertc_table_answer border_take(struct alertc_report report, uint32_t minute) {
+    static uint16_t catalogue[ALERTC_EVENTS];
+    const struct alertc_service service = {13, 17, 3};
+    uint16_t lives[ALERTC_LIVES] = {0};
+    catalogue[101] = catalogue[401] = ALERTC_CATALOGUE_ENTRY(9, 1, 0);
+    catalogue[400] = ALERTC_CATALOGUE_ENTRY(9, 2, 0);
+    lives[2] = 60;
+    return alertc_table_take(border_table, sizeof border_table, catalogue, ALERTC_EVENTS, lives,
+                             ALERTC_LIVES, &border_clock, report, service, minute, 0);
+}
+
+#define STORED(report, place, matched) stored(__LINE__, report, place, matched)
+
+/* A report that comes at minute 100 is stored at this place and frees so many. */
+static void stored(int line, struct alertc_report report, size_t place, size_t matched) {
+    struct alertc_table_answer t = border_take(report, 100);
+    same(line, "refusal", t.refusal, ALERTC_ACCEPTED);
+    same(line, "stored", t.stored, 1);
+    same(line, "place", t.place, place);
+    same(line, "expired", t.expired, 0);
+    same(line, "matched", t.matched, matched);
+}
+
+#define KEPT(place, report) kept(__LINE__, place, report)
+
+/* The record at this place reads back as this report of the service. */
+static void kept(int line, size_t place, struct alertc_report report) {
+    struct alertc_table_reading r = alertc_table_read(border_table, sizeof border_table, place);
+    same(line, "refusal", r.refusal, ALERTC_ACCEPTED);
+    same(line, "used", r.used, 1);
+    same_report(line, r.report, report);
+    same(line, "country", r.service.country, 13);
+    same(line, "ltn", r.service.ltn, 17);
+    same(line, "sid", r.service.sid, 3);
+    same(line, "expiry", r.expiry, 160);
+}
+
+static void border(void) {
+    /* At 500 of table 13/1: the worked record. */
+    const uint8_t worked[ALERTC_RECORD_BYTES] = {
+        1,    2,    3,    17,   /* used, groups, SID, LTN */
+        0xF4, 0x01, 0x91, 0x01, /* location, event */
+        0,    1,    0,    2,    /* direction, extent, diversion, duration */
+        160,  0,    0,    0,    /* expiry */
+        0x35, 0x02, 0,    0,    0, 0, 0, 0, 0, 0, 0, 0, 0, 0, /* content */
+        9,    13,                                             /* class, country */
+        13,   1};                                             /* the location's country and LTN */
+    const size_t at_home = ALERTC_RECORD_BYTES, abroad = 2 * ALERTC_RECORD_BYTES;
+    uint8_t expected[sizeof border_table] = {0};
+    memcpy(expected, worked, sizeof worked);
+    STORED(report_foreign(), 0, 0);
+    SAME_BYTES(border_table, expected, sizeof expected);
+
+    /* At 500 at home, table 13/17, one byte differs; at 500 of 1/17, the country too. No location
+     * is another's, so that no report matches another's record. */
+    struct alertc_report other_country = report_foreign();
+    other_country.location = 0xFC51;
+    memcpy(expected + at_home, worked, sizeof worked);
+    expected[at_home + 33] = 17;
+    memcpy(expected + abroad, worked, sizeof worked);
+    expected[abroad + 32] = 1;
+    expected[abroad + 33] = 17;
+    STORED(report_401(), 1, 0);
+    STORED(other_country, 2, 0);
+    SAME_BYTES(border_table, expected, sizeof expected);
+    STORED(report_foreign(), 0, 1);
+    STORED(report_401(), 1, 1);
+    STORED(other_country, 2, 1);
+    SAME_BYTES(border_table, expected, sizeof expected);
+    KEPT(0, report_foreign());
+    KEPT(1, report_401());
+    KEPT(2, other_country);
+
+    /* With the service's own FLT code a report is one at home. */
+    struct alertc_report own = report_foreign();
+    own.location = 0xFF51;
+    STORED(own, 1, 1);
+    SAME_BYTES(border_table, expected, sizeof expected);
+    KEPT(1, report_401());
+
+    /* Both reasons for 12, after 9 and 13, before 11 and 14. */
+    struct alertc_report single = report_101(), real = report_foreign(), last = report_foreign(),
+                         unplaced = report_401();
+    single.location = 0xFF41;
+    real.real_location = 0xFC00;
+    last.real_location = 0xFBFF;
+    unplaced.real_location = 500;
+    SAME(border_take(single, 100).refusal, ALERTC_REFUSED_LOCATION);
+    SAME(border_take(single, 99).refusal, ALERTC_REFUSED_MINUTE);
+    SAME(border_take(real, 100).refusal, ALERTC_REFUSED_LOCATION);
+    SAME(border_take(real, 99).refusal, ALERTC_REFUSED_MINUTE);
+    SAME(border_take(last, 100).refusal, ALERTC_REFUSED_NO_ROOM);
+    SAME(border_take(unplaced, 100).refusal, ALERTC_REFUSED_UNFIT);
+    SAME(border_take(with_items_14(real, 25), 99).refusal, ALERTC_REFUSED_UNFIT);
+    single.event = real.event = last.event = 102;
+    SAME(border_take(single, 100).refusal, ALERTC_REFUSED_LOCATION);
+    SAME(border_take(real, 100).refusal, ALERTC_REFUSED_LOCATION);
+    SAME(border_take(last, 100).refusal, ALERTC_REFUSED_EVENT);
+    single.real_location = 500;
+    SAME(border_take(single, 99).refusal, ALERTC_REFUSED_UNFIT);
+    SAME_BYTES(border_table, expected, sizeof expected);
+    SAME(border_clock, 100);
+
+    /* A foreign road's message is cancelled alone. */
+    struct alertc_report cancelling = with_items_14(report_foreign(), 0);
+    cancelling.event = 400;
+    struct alertc_table_answer t = border_take(cancelling, 100);
+    SAME(t.refusal, ALERTC_ACCEPTED);
+    SAME(t.matched, 1);
+    SAME(t.stored, 0);
+    memset(expected, 0, ALERTC_RECORD_BYTES);
+    SAME_BYTES(border_table, expected, sizeof expected);
+
+    /* The last code that is a location, with 96 bits of items; until midnight, minute 0x05A0. */
+    last = with_items_14(last, 24);
+    last.event = 401;
+    memcpy(expected, worked, sizeof worked);
+    expected[1] = 5;
+    expected[4] = 0xFF;
+    expected[5] = 0xFB;
+    expected[11] = 0;
+    expected[12] = 0xA0;
+    expected[13] = 0x05;
+    memset(expected + 16, 0xEE, 12);
+    STORED(last, 0, 0);
+    SAME_BYTES(border_table, expected, sizeof expected);
+
+    /* One record's bytes: the largest country and LTN, and what is above them; one group. */
+    uint8_t record[ALERTC_RECORD_BYTES];
+    memcpy(record, worked, sizeof record);
+    record[32] = 15;
+    record[33] = 63;
+    struct alertc_report highest = report_foreign();
+    highest.location = 0xFFFF;
+    SAME(alertc_record_read(record, sizeof record).refusal, ALERTC_ACCEPTED);
+    SAME_REPORT(alertc_record_read(record, sizeof record).report, highest);
+    record[32] = 16;
+    SAME(alertc_record_read(record, sizeof record).refusal, ALERTC_REFUSED_MALFORMED);
+    record[32] = 15;
+    record[33] = 64;
+    SAME(alertc_record_read(record, sizeof record).refusal, ALERTC_REFUSED_MALFORMED);
+    memcpy(record, worked, sizeof record);
+    record[1] = 1;
+    record[16] = record[17] = 0;
+    struct alertc_report one_group = with_items_14(report_foreign(), 0);
+    one_group.form = ALERTC_SINGLE_GROUP;
+    one_group.duration = 2;
+    SAME(alertc_record_read(record, sizeof record).refusal, ALERTC_ACCEPTED);
+    SAME_REPORT(alertc_record_read(record, sizeof record).report, one_group);
+}
+
 /* Every refusal has a text of its own. */
 static void texts(void) {
     SAME(strcmp(alertc_refusal_text(ALERTC_REFUSED_LENGTH), "wrong length"), 0);
@@ -735,10 +1056,12 @@ int main(void) {
     system_words();
     reports();
     assembler();
+    inter_road();
     rds();
     fig();
     drm();
     table();
+    border();
     texts();
     printf("%u compared, %u differ\n", compared, differing);
     return differing != 0;

@@ -9,6 +9,10 @@
  * at minute HEARD, and the table is shown at minute ASKED; minutes are UTC and count from a
  * midnight. A refusal prints its frame, counted from 1, and its number and text.
  *
+ * A location is shown as country/LTN/code, since a code means something in its own table alone: in
+ * the service's at home, in another for a foreign road (INTER-ROAD). The service that said so is
+ * shown last, as country/LTN/SID.
+ *
  * Each service that is followed has an assembler of its own: the RDS programme, each TCId of the
  * DAB ensemble, each Short ID of the DRM multiplex. So a message of one is never joined to a tail
  * of another. They are emptied on retuning, which a change of PI shows for RDS; a recording does
@@ -232,16 +236,20 @@ static int show(struct box *box, uint32_t minute) {
         return EXIT_FAILURE;
     }
     printf("minute %lu, expired %zu\n", (unsigned long)minute, freed.expired);
-    puts("place location event dir extent div dur items until country ltn sid");
+    puts("place country/ltn/location event dir extent div dur items until country/ltn/sid");
     for (size_t i = 0; i < RECORDS; i++) {
         struct alertc_table_reading record =
             alertc_record_read(box->table + i * ALERTC_RECORD_BYTES, ALERTC_RECORD_BYTES);
         if (record.used) {
             const struct alertc_report *r = &record.report;
-            printf("%zu %u %u %u %u %u %u %zu %lu %u %u %u\n", i, r->location, r->event,
-                   r->direction, r->extent, r->diversion, r->duration, r->item_count,
-                   (unsigned long)record.expiry, record.service.country, record.service.ltn,
-                   record.service.sid);
+            const struct alertc_service *from = &record.service;
+            bool foreign = r->location >= ALERTC_FLT_CODES; /* an INTER-ROAD report */
+            printf("%zu %u/%u/%u %u %u %u %u %u %zu %lu %u/%u/%u\n", i,
+                   foreign ? alertc_flt_country(r->location) : from->country,
+                   foreign ? alertc_flt_ltn(r->location) : from->ltn,
+                   foreign ? r->real_location : r->location, r->event, r->direction, r->extent,
+                   r->diversion, r->duration, r->item_count, (unsigned long)record.expiry,
+                   from->country, from->ltn, from->sid);
         }
     }
     return EXIT_SUCCESS;

@@ -43,10 +43,10 @@ extern "C" {
 #endif
 
 /* The version of this interface: the first number changes when a caller must change. */
-#define ALERTC_VERSION_MAJOR 3
+#define ALERTC_VERSION_MAJOR 4
 #define ALERTC_VERSION_MINOR 0
 #define ALERTC_VERSION_PATCH 0
-#define ALERTC_VERSION "3.0.0"
+#define ALERTC_VERSION "4.0.0"
 
 /* ---- Refusals ---- */
 
@@ -97,7 +97,7 @@ static inline const char *alertc_refusal_text(unsigned refusal) {
     case ALERTC_REFUSED_EVENT:
         return "event unknown to the catalogue";
     case ALERTC_REFUSED_LOCATION:
-        return "foreign location";
+        return "foreign table's code in place of a location";
     case ALERTC_REFUSED_MINUTE:
         return "minute before the last one, or too large";
     case ALERTC_REFUSED_NO_ROOM:
@@ -213,21 +213,42 @@ struct alertc_item {
     uint16_t value; /* within the label's width */
 };
 
+/*
+ * Location codes from here on are FLT codes: each names a foreign location table by its country and
+ * table number. A multi-group report with such a code is INTER-ROAD (ISO 14819-1, 6.7.2): its event
+ * is on a road of that table.
+ */
+#define ALERTC_FLT_CODES 0xFC00
+
+/* The FLT code of a country (0 to 15) and a location table number (0 to 63). */
+#define ALERTC_FLT_CODE(country, ltn) (ALERTC_FLT_CODES + 64 * (country) + (ltn))
+
+/* The country of an FLT code, 0 to 15. */
+static inline uint8_t alertc_flt_country(uint16_t code) {
+    return (uint8_t)(code / 64 % 16);
+}
+
+/* The location table number of an FLT code, 0 to 63. */
+static inline uint8_t alertc_flt_ltn(uint16_t code) {
+    return (uint8_t)(code % 64);
+}
+
 /* What a message says. */
 struct alertc_report {
     struct alertc_item items[ALERTC_ITEMS]; /* in order; the places after the count are 0 */
     size_t item_count;
-    uint8_t direction; /* 0 positive, 1 negative */
-    uint8_t extent;    /* 0 to 7 */
-    uint16_t event;    /* 0 to 2047 */
-    uint16_t location; /* 0 to 65535 */
-    uint8_t diversion; /* 1 if a diversion is advised, else 0 */
-    uint8_t duration;  /* 0 to 7 */
-    uint8_t form;      /* enum alertc_form */
+    uint8_t direction;      /* 0 positive, 1 negative */
+    uint8_t extent;         /* 0 to 7 */
+    uint16_t event;         /* 0 to 2047 */
+    uint16_t location;      /* 0 to 65535; INTER-ROAD: the FLT code */
+    uint16_t real_location; /* INTER-ROAD: the location, a code of the foreign table; else 0 */
+    uint8_t diversion;      /* 1 if a diversion is advised, else 0 */
+    uint8_t duration;       /* 0 to 7 */
+    uint8_t form;           /* enum alertc_form */
 };
 
 /* No items, single-group, all fields 0. */
-#define ALERTC_REPORT_INIT { { { 0, 0 } }, 0, 0, 0, 0, 0, 0, 0, 0 }
+#define ALERTC_REPORT_INIT { { { 0, 0 } }, 0, 0, 0, 0, 0, 0, 0, 0, 0 }
 
 /* What a writer wrote into the lent buffer. */
 struct alertc_written {
@@ -237,8 +258,10 @@ struct alertc_written {
 
 /*
  * Writes the words of a report, at most ALERTC_MESSAGE_WORDS, with a continuity index: 1 to
- * ALERTC_LAST_CI for a multi-group report, 0 for a single-group one. Refused: what no message says,
- * or a wrong index (9), fewer words lent than needed (15).
+ * ALERTC_LAST_CI for a multi-group report, 0 for a single-group one. Items have at most 112 bits,
+ * those of an INTER-ROAD report 96. Refused: what no message says, such as more bits of items, or a
+ * real location other than 0 on a report that is not INTER-ROAD, or a wrong index (9), fewer words
+ * lent than needed (15).
  */
 struct alertc_written alertc_report_write(struct alertc_report report, uint8_t ci,
                                           uint64_t *words, size_t words_len);
@@ -423,7 +446,7 @@ uint16_t alertc_check_word(const uint8_t *bytes, size_t bytes_len);
 /* ---- The message table ---- */
 
 /* A table is ALERTC_RECORD_BYTES for each record, at most ALERTC_RECORDS, all 0 at the start. */
-#define ALERTC_RECORD_BYTES 32
+#define ALERTC_RECORD_BYTES 34
 #define ALERTC_RECORDS 1024
 
 /*
@@ -441,9 +464,6 @@ uint16_t alertc_check_word(const uint8_t *bytes, size_t bytes_len);
 
 /* The largest minute of a call. Minutes are of UTC and count from a midnight. */
 #define ALERTC_LARGEST_MINUTE UINT32_C(4000000000)
-
-/* Location codes from here on are not of the service's own table, and are refused. */
-#define ALERTC_FOREIGN_LOCATION 0xFC00
 
 struct alertc_service {
     uint8_t country; /* 0 to 15 */
@@ -466,6 +486,11 @@ struct alertc_table_answer {
  * stores the report of an ordinary event in the lowest-numbered free record. Refused, in this
  * order: table, catalogue or lives, their sizes included (10), report, service or offset (9),
  * minute (13), location (12), event unknown (11), no room (14).
+ *
+ * A location has three parts: country, table number and code. Of an INTER-ROAD report they are the
+ * FLT code's two and the real location, of any other the service's two and `location`. So a report
+ * with the service's own FLT code is one at home, and is read back as such. A code of
+ * ALERTC_FLT_CODES or above is no location (12).
  */
 struct alertc_table_answer alertc_table_take(uint8_t *table, size_t table_len,
                                              const uint16_t *catalogue, size_t catalogue_len,
@@ -553,9 +578,10 @@ ALERTC_AT_(report, direction, 120);
 ALERTC_AT_(report, extent, 121);
 ALERTC_AT_(report, event, 122);
 ALERTC_AT_(report, location, 124);
-ALERTC_AT_(report, diversion, 126);
-ALERTC_AT_(report, duration, 127);
-ALERTC_AT_(report, form, 128);
+ALERTC_AT_(report, real_location, 126);
+ALERTC_AT_(report, diversion, 128);
+ALERTC_AT_(report, duration, 129);
+ALERTC_AT_(report, form, 130);
 ALERTC_SIZE_(written, 16);
 ALERTC_AT_(written, refusal, 8);
 ALERTC_SIZE_(assembler, 24);

@@ -8,11 +8,13 @@ use Rattle.word.specs.Format.{headFields, laterFields}
 use Rattle.word.specs.Kind.{kindOf, kindBy, multiBy}
 use Rattle.word.specs.Compose.{isIndex}
 use Rattle.word.specs.Samples.{single101, head401}
+use Rattle.location.specs.Flt.{fltFields, isFlt}
 use Rattle.content.specs.Widths.{widths, width}
 use Rattle.content.specs.Items.{first, labelled, valued, andThen, readBy, itemsWithin, items}
 use Rattle.content.specs.Content.{contentLength, content}
 use Rattle.report.specs.Report.{firstWhere}
-use Rattle.report.specs.Read.{readBits, readReport}
+use Rattle.report.specs.InterRoad.{interRoad, itemsAt}
+use Rattle.report.specs.Read.{readItems, readBits, readReport}
 use Rattle.transmission.specs.Step.{inTurn, completed, taken, later, stepBy, step}
 use Rattle.transmission.specs.Reachable.{countFits}
 use Rattle.assembler.specs.declared.Assembler.{Assembler}
@@ -27,7 +29,7 @@ use Rattle.assembler.specs.Samples.{opened401}
 
 -- names what the examples compute with
 unfoldable pub computing : Unit {0}
-unfolding bit num bits val allZero flat unpack inRange headFields laterFields kindOf kindBy multiBy isIndex widths width first labelled valued andThen readBy itemsWithin items contentLength content firstWhere readBits readReport inTurn completed taken later stepBy step countFits contentsOf stateOf partialOf assemblerOf contentFits partialFits fits answerOf reportIn stepOf calls
+unfolding bit num bits val allZero flat unpack inRange headFields laterFields kindOf kindBy multiBy isIndex widths width first labelled valued andThen readBy itemsWithin items contentLength content firstWhere fltFields isFlt interRoad itemsAt readItems readBits readReport inTurn completed taken later stepBy step countFits contentsOf stateOf partialOf assemblerOf contentFits partialFits fits answerOf reportIn stepOf calls
 computing = tt
 
 -- a tuning word, an administration word, one of CI 7 and a number that is no word leave the message open

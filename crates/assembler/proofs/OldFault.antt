@@ -28,7 +28,7 @@ use Rattle.assembler.proofs.Demand3.{demand3}
 
 -- a multi-group report with one item, a duration
 abbrev lasting : Head → ℕ → Report
-lasting head duration = record { form = Multi; head = head; diversion = 0; duration = duration; items = filled (record { label = 0; value = duration } ∷ []) }
+lasting head duration = record { form = Multi; head = head; real = 0; diversion = 0; duration = duration; items = filled (record { label = 0; value = duration } ∷ []) }
 
 -- the closure: its first group arrives
 abbrev closure : Message Report

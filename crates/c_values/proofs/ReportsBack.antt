@@ -12,7 +12,7 @@ use Rattle.content.specs.Stored.{wellPlaced}
 use Rattle.report.specs.declared.Report.{Report}
 use Rattle.report.specs.declared.Form.{Form}
 use Rattle.report.specs.declared.Form.the-variants.{Single, Multi}
-use Rattle.report.specs.Fits.{singleFits, multiFits, itemsFit, fitsBy, reportFits}
+use Rattle.report.specs.Fits.{singleFits, multiFits, itemsFit, fitsBy, realFits, reportFits}
 use Rattle.c_values.specs.declared.reports.PlainReport.{PlainReport}
 use Rattle.c_values.specs.Reports.{plainOf, formFrom, formNumber, countFrom, reportFrom}
 
@@ -29,7 +29,7 @@ pub report-back : (r : Report) → reportFrom (plainOf r) ≡ r
 report-back r =
     ap₂
     (λ (f : Form) (n : ℕ).
-    let x : Report = record { form = f; head = r .head; diversion = r .diversion; duration = r .duration; items = record { count = n; places = r .items .places } } in
+    let x : Report = record { form = f; head = r .head; real = r .real; diversion = r .diversion; duration = r .duration; items = record { count = n; places = r .items .places } } in
     x)
     (form-back (r .form))
     (count-back (r .form) (r .items .count))
@@ -43,7 +43,7 @@ too-many r Multi h = rw h
 -- a form that is neither 0 nor 1 is refused
 pub other-form : (p : PlainReport) → 1 < p .form → reportFits (reportFrom p) ≡ false
 unfolding reportFits
-other-form p h = too-many (reportFrom p) _ (passed-over _ _ _ (lt-leb _ _ h))
+other-form p h = rw (too-many (reportFrom p) (formFrom (p .form)) (passed-over _ _ _ (lt-leb _ _ h))) (and-false (realFits (formFrom (p .form)) (p .head) (p .real)))
 
 form-again : (n : ℕ) → n ≤ 1 → formNumber (formFrom n) ≡ n
 form-again zero h = refl
@@ -55,7 +55,7 @@ pub plain-back : (p : PlainReport) → p .form ≤ 1 → plainOf (reportFrom p) 
 plain-back p h =
     ap₂
     (λ (f n : ℕ).
-    let x : PlainReport = record { form = f; head = p .head; diversion = p .diversion; duration = p .duration; items = record { count = n; places = p .items .places } } in
+    let x : PlainReport = record { form = f; head = p .head; real = p .real; diversion = p .diversion; duration = p .duration; items = record { count = n; places = p .items .places } } in
     x)
     (form-again (p .form) h)
     (chosen _ _ _ (le-leb _ _ h))

@@ -21,13 +21,14 @@ countFrom form n = cond (leb form 1) n 29
 
 -- a report as C has it
 abbrev pub plainOf : Report → PlainReport
-plainOf r = record { items = r .items; head = r .head; diversion = r .diversion; duration = r .duration; form = formNumber (r .form) }
+plainOf r = record { items = r .items; head = r .head; real = r .real; diversion = r .diversion; duration = r .duration; form = formNumber (r .form) }
 
 -- and back
 abbrev pub reportFrom : PlainReport → Report
 reportFrom p = record {
   items = record { places = p .items .places; count = countFrom (p .form) (p .items .count) };
   head = p .head;
+  real = p .real;
   diversion = p .diversion;
   duration = p .duration;
   form = formFrom (p .form);

@@ -6,11 +6,12 @@ use report::Form;
 use report::Report;
 use word::Head;
 
-// A report whose form is a number: 0 for a single-group and 1 for a multi-group one.
+// A report whose form is a number: 0 for a single-group and 1 for a multi-group one. Its `real` is the header's `real_location`.
 #[repr(C)]
 pub struct PlainReport {
     pub items: Items,
     pub head: Head,
+    pub real: u16,
     pub diversion: u8,
     pub duration: u8,
     pub form: u8,
@@ -27,6 +28,7 @@ impl PlainReport {
         PlainReport {
             items,
             head,
+            real: r.real,
             diversion: r.diversion,
             duration: r.duration,
             form: form_number(form),
@@ -46,6 +48,7 @@ impl PlainReport {
                 count: count_from(self.form, items.count),
             },
             head,
+            real: self.real,
             diversion: self.diversion,
             duration: self.duration,
             form: form_from(self.form),

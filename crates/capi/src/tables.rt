@@ -15,7 +15,7 @@ use clock::Utc;
 use record::Service;
 use table::Table;
 
-// Takes a report of a service at a minute.
+// Takes a report of a service at a minute. The location of an INTER-ROAD report is the real one, in the table of its FLT code.
 #[no_mangle]
 pub extern "C" fn alertc_table_take(
     table: &mut [u8],
@@ -57,7 +57,7 @@ pub extern "C" fn alertc_table_expire(table: &mut [u8], clock: &mut u32, minute:
     TableAnswer::of(answer)
 }
 
-// Reads the record at a place.
+// Reads the record at a place. One of a foreign location gives an FLT code and the real location.
 #[no_mangle]
 pub extern "C" fn alertc_table_read(table: &[u8], place: usize) -> RecordReading
     ensures { λ r. ⌜ r ≡ recordReading (recordAt (now (table .entry)) place) ⌝ }
@@ -65,7 +65,7 @@ pub extern "C" fn alertc_table_read(table: &[u8], place: usize) -> RecordReading
     RecordReading::of(Table::read(table, place))
 }
 
-// Reads the bytes of one record.
+// Reads the bytes of one record, in the same way.
 #[no_mangle]
 pub extern "C" fn alertc_record_read(bytes: &[u8]) -> RecordReading
     ensures { λ r. ⌜ r ≡ recordReading (readingOf (now (bytes .entry))) ⌝ }

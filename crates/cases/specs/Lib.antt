@@ -1,3 +1,4 @@
 pub mod Case
 pub mod Samples
 pub mod Cases
+pub mod InterRoad

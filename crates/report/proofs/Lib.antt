@@ -3,6 +3,7 @@ pub mod Messages
 pub mod Multi
 pub mod Places
 pub mod Wholes
+pub mod Writable
 pub mod Tests
 pub mod Kept
 pub mod OwnParts

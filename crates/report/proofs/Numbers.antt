@@ -1,13 +1,14 @@
 -- The refusals that the answers tell, in the numbers of document 01: items are refused as content is (1, 7 or 8), a message for its length (1)
 -- and then as its items are, and packing with 9, then 15.
 use Prim.Native.Nat.{ℕ}
-use mathlib.Core.Path.{_≡_, refl}
+use mathlib.Core.Path.{_≡_, refl, sym, ap, _∙_}
 use mathlib.Core.Bool.{Bool, true, false, cond, _&&_}
 use mathlib.Core.List.{List}
 use lib.ListN.{length, take, drop}
 use lib.Dec.{leb}
 use Rattle.bits.specs.Bits.{val}
-use Rattle.bits.specs.Outcome.{gives, refused, mapped}
+use Rattle.bits.specs.Outcome.{Outcome, gives, refused, mapped}
+use Rattle.bits.proofs.Choice.{either, chosen, passed-over}
 use Rattle.word.specs.declared.Head.{Head}
 use Rattle.content.specs.Items.{Reading}
 use Rattle.content.specs.Content.{contentLength, content}
@@ -22,6 +23,7 @@ use Rattle.report.specs.Read.{readItems, readBits, outcomeOf}
 use Rattle.report.specs.InterRoad.{itemsAt}
 use Rattle.report.specs.Fits.{reportFits}
 use Rattle.report.specs.Record.{contentBytes, groupsOf, packReport}
+use Rattle.report.proofs.Wholes.{whole-read, whole-refused}
 
 pub items-number : (h : Head) (real : ℕ) (l : List Bool) → refusalIn (outcomeOf (readItems h real l) .answer) ≡ readRefusal (readingOf (content l) .answer)
 unfolding outcomeOf readItems readingOf
@@ -33,14 +35,14 @@ items-number h real l = by-reading (content l)
 
 pub message-number : (h : Head) (l : List Bool)
     → refusalIn (outcomeOf (readBits h l) .answer) ≡ cond (contentLength (length l)) (readRefusal (readingOf (content (drop (itemsAt Multi h) l)) .answer)) 1
-unfolding outcomeOf readBits
-message-number h l = by-length (contentLength (length l))
+unfolding outcomeOf
+message-number h l =
+    either (contentLength (length l))
+    (λ e. ap number (whole-read h l e) ∙ items-number h (val (take (itemsAt Multi h) l)) (drop (itemsAt Multi h) l) ∙ sym (chosen _ _ _ e))
+    (λ e. ap number (whole-refused h l e) ∙ sym (passed-over _ _ _ e))
   where
-    by-length : (b : Bool)
-        → refusalIn (outcomeOf (elim b [ true ↦ readItems h (val (take (itemsAt Multi h) l)) (drop (itemsAt Multi h) l) | false ↦ refused 1 ]) .answer)
-        ≡ cond b (readRefusal (readingOf (content (drop (itemsAt Multi h) l)) .answer)) 1
-    by-length true = items-number h (val (take (itemsAt Multi h) l)) (drop (itemsAt Multi h) l)
-    by-length false = refl
+    number : Outcome Report ℕ → ℕ
+    number x = refusalIn (outcomeOf x .answer)
 
 -- the number of groups where there is no refusal
 pub pack-numbers : (r : Report) (room : ℕ)

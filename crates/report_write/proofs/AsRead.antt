@@ -1,13 +1,16 @@
 -- The words of a report have the kinds and the fields that were written, and their contents read as the report.
-use Prim.Native.Nat.{ℕ, _-_}
-use mathlib.Core.Path.{_≡_, ap, ap₂, _∙_}
+use Prim.Native.Nat.{ℕ, _-_, _^_}
+use mathlib.Core.Path.{_≡_, sym, ap, ap₂, _∙_}
 use mathlib.Core.Bool.{Bool, true, _&&_}
+use mathlib.Core.List.{List}
 use native.Mathlib.Nat.{mul-comm}
-use lib.ListN.{length}
+use lib.ListN.{length, take, drop}
+use borrow.Author.Tests.{ltb-true}
 use Rattle.bits.specs.Bits.{val}
 use Rattle.bits.specs.Fields.{pack, fits}
 use Rattle.bits.specs.Outcome.{gives, mapped}
 use Rattle.bits.proofs.Choice.{chosen}
+use Rattle.bits.proofs.Value.{val-bits-lt}
 use Rattle.bits.proofs.Fields.{flat-words}
 use Rattle.word.specs.declared.Head.{Head}
 use Rattle.word.specs.declared.Word.the-variants.{Single, First, Later}
@@ -15,15 +18,21 @@ use Rattle.word.specs.Format.{headFormat, laterFormat}
 use Rattle.word.specs.Kind.{kindOf}
 use Rattle.word.specs.Compose.{composed, singleValues, firstValues, laterValues, isIndex}
 use Rattle.word.proofs.Inverse.{compose-parse}
-use Rattle.content.specs.Packing.{groupBits, groups, packing, padded}
+use Rattle.content.specs.Items.{Reading}
+use Rattle.content.specs.Content.{content}
+use Rattle.content.specs.Packing.{groupBits, groups, padded}
 use Rattle.content.specs.Stored.{limit, listed}
-use Rattle.content.proofs.WrittenIsRead.{length-padded, written-is-read}
+use Rattle.content.proofs.WrittenIsRead.{length-padded, padded-length, padded-front, written-is-read}
 use Rattle.report.specs.declared.Report.{Report}
+use Rattle.report.specs.declared.Form.{Form}
 use Rattle.report.specs.declared.Form.the-variants as form
 use Rattle.report.specs.Report.{multiReport}
-use Rattle.report.specs.Read.{readBits, readReport}
-use Rattle.report.specs.Fits.{multiFits}
-use Rattle.report.proofs.Multi.{fit-writable, items-fit}
+use Rattle.report.specs.InterRoad.{itemsAt, realBits, contentOf}
+use Rattle.report.specs.Read.{readItems, readBits, readReport}
+use Rattle.report.specs.Fits.{realFits, multiFits}
+use Rattle.report.proofs.Multi.{fit-writable, items-fit, content-short}
+use Rattle.report.proofs.Places.{length-real}
+use Rattle.report.proofs.Wholes.{whole-read}
 use Rattle.report.proofs.OwnParts.{multi-is-report}
 use Rattle.report_write.specs.Write.{contentsOf}
 
@@ -41,11 +50,32 @@ unfolding composed
 later-kind ci mark gsi c i f = compose-parse (Later ci mark gsi c) _ (chosen _ _ _ (ap₂ (λ (a b : Bool). a && b) i f))
 
 -- the contents of the fewest groups read as the report, whose items stand in 28 places
-pub contents-read : (r : Report) → length (r .items .places) ≡ limit → multiFits r ≡ true → r .form ≡ form.Multi → readReport (r .head) (contentsOf (listed (r .items))) ≡ gives r
-unfolding contentsOf readReport readBits
-contents-read r sized f e =
-    let its = listed (r .items) in
-    let k = groups (length (packing its)) - 1 in
-    ap (readBits (r .head)) (flat-words groupBits k (padded its) (length-padded its ∙ mul-comm groupBits k))
-    ∙ ap (mapped (multiReport (r .head))) (written-is-read its (fit-writable (r .items) (items-fit r f)))
-    ∙ ap gives (multi-is-report r sized f e)
+module _ (r : Report) (sized : length (r .items .places) ≡ limit) (real : realFits (r .form) (r .head) (r .real) ≡ true) (f : multiFits r ≡ true) (e : r .form ≡ form.Multi) where
+  abbrev all : List Bool
+  all = padded (contentOf r)
+
+  -- the items begin after the bits of the real location
+  begin : itemsAt form.Multi (r .head) ≡ length (realBits r)
+  begin = ap (λ (x : Form). itemsAt x (r .head)) (sym e) ∙ sym (length-real r)
+
+  real-back : val (take (itemsAt form.Multi (r .head)) all) ≡ r .real
+  unfolding contentOf realBits realFits
+  real-back =
+      ap (λ (n : ℕ). val (take n all)) begin
+      ∙ ap val (padded-front (realBits r) (listed (r .items)))
+      ∙ val-bits-lt (itemsAt (r .form) (r .head)) (r .real) (ltb-true (r .real) (2 ^ itemsAt (r .form) (r .head)) real)
+
+  items-back : content (drop (itemsAt form.Multi (r .head)) all) ≡ gives (listed (r .items))
+  unfolding contentOf
+  items-back =
+      ap (λ (n : ℕ). content (drop n all)) begin
+      ∙ written-is-read (realBits r) (listed (r .items)) (fit-writable (r .items) (items-fit r f)) (content-short r f)
+
+  pub contents-read : readReport (r .head) (contentsOf (contentOf r)) ≡ gives r
+  unfolding contentsOf readReport readItems
+  contents-read =
+      let k = groups (length (contentOf r)) - 1 in
+      ap (readBits (r .head)) (flat-words groupBits k all (length-padded (contentOf r) ∙ mul-comm groupBits k))
+      ∙ whole-read (r .head) all (padded-length (contentOf r) (content-short r f))
+      ∙ ap₂ (λ (n : ℕ) (x : Reading). mapped (multiReport (r .head) n) x) real-back items-back
+      ∙ ap gives (multi-is-report r sized f e)

@@ -10,7 +10,7 @@ use Rattle.report.specs.declared.Report.{Report}
 use Rattle.report.specs.declared.Form.{Form}
 use Rattle.report.specs.declared.Form.the-variants.{Single, Multi}
 use Rattle.bits.specs.declared.Writing.the-variants.{Refused}
-use Rattle.report.specs.Fits.{singleFits, multiFits, fitsBy, reportFits}
+use Rattle.report.specs.Fits.{singleFits, multiFits, fitsBy, realFits, reportFits}
 use Rattle.report_write.specs.Write.{indexFits, singleWords, multiWords, wordsBy, wordsOf, canWrite, answerFor, bufferAfter, writeReport, wordsAfter}
 
 module _ (ci : ℕ) (r : Report) where
@@ -19,13 +19,21 @@ module _ (ci : ℕ) (r : Report) where
     unfolding canWrite
     report-fits = and-left (reportFits r) (indexFits (r .form) ci) ok
 
+    pub real-fits : realFits (r .form) (r .head) (r .real) ≡ true
+    unfolding reportFits
+    real-fits = and-left (realFits (r .form) (r .head) (r .real)) (fitsBy (r .form) r) report-fits
+
+    form-fits : fitsBy (r .form) r ≡ true
+    unfolding reportFits
+    form-fits = and-right (realFits (r .form) (r .head) (r .real)) (fitsBy (r .form) r) report-fits
+
     pub single-fits : r .form ≡ Single → singleFits r ≡ true
-    unfolding reportFits fitsBy
-    single-fits e = sym (ap (λ (f : Form). fitsBy f r) e) ∙ report-fits
+    unfolding fitsBy
+    single-fits e = sym (ap (λ (f : Form). fitsBy f r) e) ∙ form-fits
 
     pub multi-fits : r .form ≡ Multi → multiFits r ≡ true
-    unfolding reportFits fitsBy
-    multi-fits e = sym (ap (λ (f : Form). fitsBy f r) e) ∙ report-fits
+    unfolding fitsBy
+    multi-fits e = sym (ap (λ (f : Form). fitsBy f r) e) ∙ form-fits
 
     pub multi-index : r .form ≡ Multi → isIndex ci ≡ true
     unfolding canWrite indexFits

@@ -1,5 +1,6 @@
 pub mod Buffer
 pub mod Tail
+pub mod Kept
 pub mod Multi
 pub mod Forms
 pub mod AsRead

@@ -1,4 +1,4 @@
--- The words of a multi-group report from what the packer gives.
+-- The words of a multi-group report from its content bits as they are kept.
 use Prim.Native.Nat.{ℕ, suc, _-_, _*_, _≤_}
 use mathlib.Core.Path.{_≡_, refl, sym, ap, ap₂, _∙_}
 use mathlib.Core.Bool.{Bool, true, _&&_}
@@ -15,18 +15,15 @@ use Rattle.bits.proofs.Choice.{and-right}
 use Rattle.bits.proofs.Fields.{length-words}
 use Rattle.word.specs.Format.{headFormat}
 use Rattle.word.specs.Compose.{firstValues, isIndex}
-use Rattle.content.specs.declared.pack.Packed.{Packed}
 use Rattle.content.specs.Halves.{bitsOf, startingWith}
-use Rattle.content.specs.Packing.{zeros, groupBits, groups, packing}
-use Rattle.content.specs.Stored.{listed}
-use Rattle.content.specs.Answers.{packed, packedOf, bitsPacked}
+use Rattle.content.specs.Packing.{zeros, groupBits, groups}
 use Rattle.content.proofs.Halves.{length-bitsOf}
-use Rattle.content.proofs.WrittenIsRead.{packable-short, writable-packable}
-use Rattle.content.proofs.PackedIsRead.{packed-padded}
+use Rattle.content.proofs.PackedIsRead.{kept-padded}
 use Rattle.report.specs.declared.Report.{Report}
+use Rattle.report.specs.InterRoad.{contentOf}
 use Rattle.report.specs.Fits.{multiFits}
 use Rattle.report.proofs.Kept.{words-take}
-use Rattle.report.proofs.Multi.{fit-writable, fit-packed, items-fit, head-fit}
+use Rattle.report.proofs.Multi.{content-short, head-fit}
 use Rattle.report_write.specs.Write.{contentsOf, laterWords, multiWords}
 use Rattle.report_write.proofs.Tail.{length-tail}
 
@@ -46,40 +43,30 @@ module _ (ci : ℕ) (r : Report) (fit : multiFits r ≡ true) where
       let small = index-lt ci i in
       ap₂ (λ (a b : Bool). a && b) (lt-ltb ci 8 (omega arith)) (head-fit r fit)
 
-  -- the bits that the packer tells are those of the items
-  bits-are : bitsPacked (packedOf (r .items) .answer) ≡ length (packing (listed (r .items)))
-  unfolding bitsPacked packed
-  bits-are = ap (λ (p : Packed). bitsPacked (p .answer)) (fit-packed (r .items) (items-fit r fit))
-
   abbrev count : ℕ
-  count = groups (bitsPacked (packedOf (r .items) .answer))
+  count = groups (length (contentOf r))
 
   pub few : count ≤ 5
-  few =
-      let short = packable-short (listed (r .items)) (writable-packable (listed (r .items)) (fit-writable (r .items) (items-fit r fit))) in
-      let n = bits-are in
-      omega arith
+  few = let short = content-short r fit in omega arith
 
   abbrev content : List Bool
-  content = bitsOf (packedOf (r .items) .content)
+  content = bitsOf (startingWith (contentOf r))
 
-  contents-are : contentsOf (listed (r .items)) ≡ words groupBits (count - 1) content
-  unfolding contentsOf packed
+  contents-are : contentsOf (contentOf r) ≡ words groupBits (count - 1) content
+  unfolding contentsOf
   contents-are =
-      let its = listed (r .items) in
-      let k = groups (length (packing its)) - 1 in
-      ap (words groupBits k) (sym (packed-padded its (fit-writable (r .items) (items-fit r fit))) ∙ ap (λ (m : ℕ). take m (bitsOf (startingWith (packing its)))) (mul-comm groupBits k))
-      ∙ words-take groupBits k (bitsOf (startingWith (packing its)))
-      ∙ ap₂ (λ (n : ℕ) (p : Packed). words groupBits (groups n - 1) (bitsOf (p .content))) (sym bits-are) (sym (fit-packed (r .items) (items-fit r fit)))
+      let k = count - 1 in
+      ap (words groupBits k) (sym (kept-padded (contentOf r) (content-short r fit)) ∙ ap (λ (m : ℕ). take m content) (mul-comm groupBits k))
+      ∙ words-take groupBits k content
 
   -- the content of the second group, and those of the groups after it
   pub second-and-tail : (next : List Bool) → next ≡ drop groupBits content ++ zeros groupBits
-      → contentsOf (listed (r .items)) ≡ val (take groupBits content) ∷ words groupBits (count - 2) next
+      → contentsOf (contentOf r) ≡ val (take groupBits content) ∷ words groupBits (count - 2) next
   unfolding words
   second-and-tail next e =
       let k : count - 1 ≡ suc (count - 2) = omega arith in
       let short = few in
-      let room : (count - 2) * groupBits ≤ length (drop groupBits content) = omega (arith, length-drop groupBits content, length-bitsOf (packedOf (r .items) .content)) in
+      let room : (count - 2) * groupBits ≤ length (drop groupBits content) = omega (arith, length-drop groupBits content, length-bitsOf (startingWith (contentOf r))) in
       contents-are
       ∙ ap (λ (n : ℕ). words groupBits n content) k
       ∙ ap (λ (cs : List ℕ). val (take groupBits content) ∷ cs) (sym (words-before groupBits (count - 2) (drop groupBits content) (zeros groupBits) room) ∙ ap (words groupBits (count - 2)) (sym e))

@@ -17,16 +17,16 @@ use Rattle.bits.proofs.Fields.{length-words}
 use Rattle.word.specs.declared.Head.{Head}
 use Rattle.word.specs.Format.{headFormat}
 use Rattle.word.specs.Compose.{singleValues, firstValues, isIndex}
-use Rattle.content.specs.Packing.{groupBits, groups, packing, padded}
-use Rattle.content.specs.Stored.{limit, listed, wellPlaced}
-use Rattle.content.proofs.WrittenIsRead.{packable-short, writable-packable}
+use Rattle.content.specs.Packing.{groupBits, groups, padded}
+use Rattle.content.specs.Stored.{limit, wellPlaced}
 use Rattle.report.specs.declared.Report.{Report}
 use Rattle.report.specs.declared.Form.{Form}
 use Rattle.report.specs.declared.Form.the-variants as form
 use Rattle.report.specs.Report.{singleReport}
+use Rattle.report.specs.InterRoad.{contentOf}
 use Rattle.report.specs.Read.{readReport}
 use Rattle.report.specs.Fits.{singleFits}
-use Rattle.report.proofs.Multi.{fit-writable, items-fit}
+use Rattle.report.proofs.Multi.{content-short}
 use Rattle.report.proofs.OwnParts.{single-is-report}
 use Rattle.transmission.specs.Message.{Group, Falling, end, next, WellFormed, alone, joined}
 use Rattle.transmission.specs.Demand3.{All}
@@ -37,7 +37,7 @@ use Rattle.bits.specs.declared.Writing.the-variants.{Written, Refused}
 use Rattle.report_write.specs.Write.{contentsOf, tailWord, tailWords, laterWords, singleWords, multiWords, wordsBy, wordsOf, canWrite, answerFor, bufferAfter, writeReport, wordsAfter}
 use Rattle.report_write.proofs.Tail.{later-fits}
 use Rattle.report_write.proofs.Multi.{index-lt, first-fits}
-use Rattle.report_write.proofs.Forms.{single-fits, multi-fits, multi-index}
+use Rattle.report_write.proofs.Forms.{real-fits, single-fits, multi-fits, multi-index}
 use Rattle.report_write.proofs.AsRead.{single-kind, first-kind, later-kind, contents-read}
 
 -- the groups of words that all arrive
@@ -79,18 +79,18 @@ module _ (ci : ℕ) (r : Report) (sized : length (r .items .places) ≡ limit) (
   single-formed e =
       let f = single-fits ci r ok e in
       let ranges = and-left (fits headFormat (singleValues (r .duration) (r .diversion) (r .head))) (wellPlaced (r .items) && eqb (r .items .count) 0) f in
-      subst (WellFormed singleReport readReport (heard (singleWords r))) (single-is-report r sized f e) (alone (single-kind (r .duration) (r .diversion) (r .head) ranges))
+      subst (WellFormed singleReport readReport (heard (singleWords r))) (single-is-report r sized (real-fits ci r ok) f e) (alone (single-kind (r .duration) (r .diversion) (r .head) ranges))
 
   groups-formed : r .form ≡ form.Multi → WellFormed singleReport readReport (heard (multiWords ci r)) r
   unfolding multiWords contentsOf
   groups-formed e =
       let f = multi-fits ci r ok e in
       let i = multi-index ci r ok e in
-      let its = listed (r .items) in
-      let n = groups (length (packing its)) - 1 in
-      let short = packable-short its (writable-packable its (fit-writable (r .items) (items-fit r f))) in
-      let long = length-words groupBits n (padded its) in
-      multi-formed ci i (r .head) (contentsOf its) r (first-fits ci r f i) (omega arith) (omega arith) (contents-lt n (padded its)) (contents-read r sized f e)
+      let l = contentOf r in
+      let n = groups (length l) - 1 in
+      let short = content-short r f in
+      let long = length-words groupBits n (padded l) in
+      multi-formed ci i (r .head) (contentsOf l) r (first-fits ci r f i) (omega arith) (omega arith) (contents-lt n (padded l)) (contents-read r sized (real-fits ci r ok) f e)
 
   -- the words are those of a well-formed message, whose report it is
   pub well-formed : WellFormed singleReport readReport (heard (wordsOf ci r)) r

@@ -1,4 +1,5 @@
--- The words of a report in a lent buffer (document 01, "Multi-group content"; ISO 14819-1, clauses 7.4, 9.4.2 and 9.4.3).
+-- The words of a report in a lent buffer (document 01, "Multi-group content"; ISO 14819-1, clauses 6.7.2, 7.4, 9.4.2 and
+-- 9.4.3).
 use Prim.Native.Nat.{ℕ, _-_}
 use mathlib.Core.Bool.{Bool, cond, _&&_}
 use mathlib.Core.List.{List, [], _∷_, _++_}
@@ -8,12 +9,11 @@ use Rattle.bits.specs.Bits.{val}
 use Rattle.bits.specs.Fields.{words, pack}
 use Rattle.word.specs.Format.{headFormat, laterFormat}
 use Rattle.word.specs.Compose.{singleValues, firstValues, laterValues, isIndex}
-use Rattle.content.specs.declared.item.Item.{Item}
-use Rattle.content.specs.Packing.{groupBits, groups, packing, padded}
-use Rattle.content.specs.Stored.{listed}
+use Rattle.content.specs.Packing.{groupBits, groups, padded}
 use Rattle.report.specs.declared.Report.{Report}
 use Rattle.report.specs.declared.Form.{Form}
 use Rattle.report.specs.declared.Form.the-variants.{Single, Multi}
+use Rattle.report.specs.InterRoad.{contentOf}
 use Rattle.report.specs.Fits.{reportFits}
 use Rattle.bits.specs.declared.Writing.{Writing}
 use Rattle.bits.specs.declared.Writing.the-variants.{Written, Refused}
@@ -31,9 +31,9 @@ canWrite ci r = reportFits r && indexFits (r .form) ci
 unfoldable pub singleWords : Report → List ℕ
 singleWords r = val (pack headFormat (singleValues (r .duration) (r .diversion) (r .head))) ∷ []
 
--- the contents of the later groups, the fewest that hold the items
-unfoldable pub contentsOf : List Item → List ℕ
-contentsOf its = words groupBits (groups (length (packing its)) - 1) (padded its)
+-- content bits as the contents of later groups, the fewest that hold them
+unfoldable pub contentsOf : List Bool → List ℕ
+contentsOf l = words groupBits (groups (length l) - 1) (padded l)
 
 -- a group after the second: no mark, and its GSI is the number of groups still to come
 unfoldable pub tailWord : ℕ → ℕ → ℕ → ℕ
@@ -51,7 +51,7 @@ laterWords ci (c ∷ cs) = val (pack laterFormat (laterValues ci 1 (length cs) c
 
 -- a first group and later groups
 unfoldable pub multiWords : ℕ → Report → List ℕ
-multiWords ci r = val (pack headFormat (firstValues ci (r .head))) ∷ laterWords ci (contentsOf (listed (r .items)))
+multiWords ci r = val (pack headFormat (firstValues ci (r .head))) ∷ laterWords ci (contentsOf (contentOf r))
 
 -- by the report's form
 unfoldable pub wordsBy : Form → ℕ → Report → List ℕ

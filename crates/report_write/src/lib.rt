@@ -3,17 +3,20 @@ ghost use mathlib.Core.Path.{_≡_};
 ghost use mathlib.Core.Bool.{true};
 ghost use Prim.Native.Nat.{_≤_, _<_};
 ghost use lib.ListN.{length};
-ghost use Rattle.content.specs.Halves.{bitsOf};
+ghost use Rattle.content.specs.Halves.{bitsOf, startingWith};
 ghost use Rattle.content.specs.Packing.{groupBits};
 ghost use Rattle.bits.specs.Fields.{words};
 ghost use Rattle.word.specs.Compose.{isIndex};
+ghost use Rattle.report.specs.InterRoad.{contentOf};
 ghost use Rattle.report.specs.Fits.{singleFits, multiFits};
 ghost use Rattle.report_write.specs.Write.{indexFits, writeReport, wordsAfter, answerFor, bufferAfter, singleWords, tailWords, multiWords};
 use bits::Writing;
 use content::content::Content;
 use content::pack::pack;
+use content::rest::Rest;
 use report::Form;
 use report::Report;
+use report::inter_road::items_at;
 use word::compose::first_number;
 use word::compose::is_index;
 use word::compose::later_number;
@@ -65,10 +68,9 @@ fn write_multi(r: Report, ci: u8, out: &mut [u64]) -> Writing
     ensures { λ w. ⌜ w ≡ answerFor (multiWords ci r) (length (now (out .entry))) ⌝ }
     ensures { λ _. ⌜ now (out .exit) ≡ bufferAfter (multiWords ci r) (now (out .entry)) ⌝ }
 {
-    let packed = pack(r.items);
-    let answer = packed.answer;
-    let content = packed.content;
-    let end = Content::groups(answer.bits());
+    let whole = content_of(r);
+    let content = whole.bits;
+    let end = Content::groups(whole.left);
     if end <= out.len() {
         let bits = content.first_bits(Content::GROUP);
         out[0] = first_number(ci, r.head);
@@ -77,6 +79,22 @@ fn write_multi(r: Report, ci: u8, out: &mut [u64]) -> Writing
         Writing::Written(end)
     } else {
         Writing::Refused(15)
+    }
+}
+
+// The content bits of a multi-group report: its real location, if it has a place for it, and its items.
+fn content_of(r: Report) -> Rest
+    requires { ⌜ multiFits r ≡ true ⌝ }
+    ensures { λ c. ⌜ c ≡ record { bits = startingWith (contentOf r); left = length (contentOf r) } ⌝ }
+{
+    let packed = pack(r.items);
+    let answer = packed.answer;
+    let items = packed.content;
+    let form = r.form;
+    let at = items_at(form, r.head);
+    Rest {
+        bits: items.prefixed(at, r.real as u64),
+        left: at + answer.bits(),
     }
 }
 

@@ -15,6 +15,9 @@ pub const UNIT_BYTES: usize = 128;
 pub const UNIT_WORDS: usize = 27;
 pub const GROUP_BYTES: usize = 8;
 
+/// The code of a foreign location table: country 13, number 1.
+const FLT_CODE: u16 = 0xFF41;
+
 /// Of the rough input one piece in so many is lost, and as many are refused.
 const ROUGH: usize = 5;
 
@@ -48,11 +51,31 @@ pub fn multi_at(location: u16, count: usize) -> Report {
     report
 }
 
+/// Report `i` of several multi-group ones, with its continuity index.
+fn multi(i: u16) -> (Report, u8) {
+    (multi_at(i, 1 + usize::from(i) % 7), 1 + (i % 6) as u8)
+}
+
+/// Multi-group reports with their continuity indices.
+pub fn multi_reports(count: u16) -> Vec<(Report, u8)> {
+    (0..count).map(multi).collect()
+}
+
+/// The same reports as INTER-ROAD ones.
+pub fn inter_road_reports(count: u16) -> Vec<(Report, u8)> {
+    let abroad = |(mut report, ci): (Report, u8)| {
+        report.real_location = report.head.location;
+        report.head.location = FLT_CODE;
+        (report, ci)
+    };
+    (0..count).map(multi).map(abroad).collect()
+}
+
 /// Reports with their continuity indices: two multi-group ones to a single one.
 pub fn reports(count: u16) -> Vec<(Report, u8)> {
     let report = |i: u16| match i % 3 {
         0 => (single_at(i), 0),
-        _ => (multi_at(i, 1 + usize::from(i) % 7), 1 + (i % 6) as u8),
+        _ => multi(i),
     };
     (0..count).map(report).collect()
 }

@@ -189,6 +189,14 @@ fn bench(programs: Option<(PathBuf, PathBuf)>) -> io::Result<()> {
         "word through the assembler, with losses",
         &input::rough_words(&words),
     );
+    bench_assembler(
+        "word of multi-group messages through the assembler",
+        &input::words(&input::multi_reports(10_000)),
+    );
+    bench_assembler(
+        "word of INTER-ROAD messages through the assembler",
+        &input::words(&input::inter_road_reports(10_000)),
+    );
     bench_expiry();
     tables::bench();
     match programs {

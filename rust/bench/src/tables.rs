@@ -2,7 +2,7 @@
 
 use std::hint::black_box;
 
-use proved::{Report, Service, TableAnswer, TableReading, Taking};
+use proved::{Report, Service, TableAnswer, TableReading, Taking, RECORD_BYTES as RECORD};
 
 use crate::input::{multi_at, single_at};
 use crate::timing::{least, measure, print_limit, Times};
@@ -10,7 +10,6 @@ use crate::timing::{least, measure, print_limit, Times};
 /// Calls in one measurement.
 const CALLS: usize = 20;
 const SCANS: usize = 200;
-const RECORD: usize = 32;
 const EVENTS: usize = 2048;
 const LIVES: usize = 16;
 const START: u32 = 10_000;
@@ -114,7 +113,7 @@ fn take(what: &str, records: usize, report_at: fn(u16) -> Report) -> Times {
 }
 
 /// Takes of which half meet an expired record, and the others are of all kinds: cancelling, null,
-/// unfit, of a foreign location, unknown, without room.
+/// unfit, of an FLT code, unknown, without room.
 fn take_rough(records: usize) {
     let mut table = Table::new(records, records as u16);
     for minute in START..START + records as u32 {

@@ -25,6 +25,7 @@ pub use second::crc::crc as check_word;
 type Refused<T> = Result<T, Refusal>;
 
 const _: () = assert!(MOST_ITEMS == proved::ITEMS);
+const _: () = assert!(table::RECORD == proved::RECORD_BYTES);
 
 /// A value and no refusal, or a blank value and the refusal's number.
 fn split<T: Default>(answer: Refused<T>) -> (T, u8) {
@@ -247,6 +248,7 @@ fn report(report: &proved::Report) -> Report {
     Report {
         multi: report.form == 1,
         head,
+        real_location: report.real_location,
         diversion: report.diversion,
         duration: report.duration,
         items,
@@ -261,6 +263,7 @@ fn of_report(report: &Report) -> proved::Report {
         }),
         item_count: report.items.count.into(),
         head: of_head(report.head),
+        real_location: report.real_location,
         diversion: report.diversion,
         duration: report.duration,
         form: report.multi.into(),

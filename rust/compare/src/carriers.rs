@@ -318,7 +318,7 @@ impl Trial {
             return;
         }
         let at = random.index(words.len());
-        match random.below(7) {
+        match random.below(8) {
             0 => words.truncate(at),
             1 => words.insert(at, sender::other_word(random)),
             2 => {
@@ -331,6 +331,8 @@ impl Trial {
             }
             4 => words[at] ^= 1 << random.below(38),
             5 => words.resize(words.len() + 256, 1 << 36),
+            // A first group becomes one of an INTER-ROAD message, or of one no longer.
+            6 => words[at] ^= 0xFC00,
             _ => {
                 words.remove(at);
             }
@@ -348,6 +350,11 @@ impl Trial {
         if self.random.once_in(3) {
             whole = false;
             self.damage_words(&mut words);
+        }
+        let refused = self.random.once_in(8);
+        if refused {
+            whole = false;
+            words.extend(sender::refused_message(&mut self.random).1);
         }
         let room = if self.random.once_in(6) {
             self.random.index(130)
@@ -374,7 +381,16 @@ impl Trial {
         tally.mark("DRM write: an unused system word not 0", unused);
         tally.mark("DRM write: four system words or more", beyond);
         tally.mark("DRM write: a field of a header that is not sent", headless);
-        if unused || beyond || headless {
+        let inter_road = words.iter().any(|&word| {
+            // A first group with an FLT code.
+            let head = word >> 31 & 1 == 1 && (1..=6).contains(&(word >> 32));
+            head && sender::is_flt(word as u16)
+        });
+        tally.mark(
+            "DRM write: an INTER-ROAD message",
+            inter_road && proved.refusal == 0,
+        );
+        if unused || beyond || headless || refused {
             self.tally.expect(Call::DrmWrite, &input, proved.refusal, 9);
             return;
         }

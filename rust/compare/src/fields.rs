@@ -26,7 +26,7 @@ macro_rules! fields {
 fields! {
     Item { label value }
     Head { direction extent event location }
-    Report { item_count diversion duration form, head, items }
+    Report { item_count diversion duration form real_location, head, items }
     Assembler { ci gsi later_groups, first_group, contents }
     WordFields { word content duration diversion ci second gsi kind, head }
     SystemFields {

@@ -49,6 +49,7 @@ impl Trial {
         times(400, Self::report_write);
         times(40, Self::assembler_walk);
         times(600, Self::assembler_state);
+        times(100, Self::assembler_refusal);
         times(600, Self::fig_read);
         times(300, Self::fig_write);
         times(600, Self::drm_read);

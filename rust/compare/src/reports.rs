@@ -5,7 +5,10 @@ use crate::fields::Fields;
 use crate::sender::{self, Message, CONTENT_BITS, WORD_LIMIT};
 use crate::tally::Call;
 use crate::Trial;
-use proved::{Assembler, AssemblerAnswer, Item, Report, Written, ITEMS};
+use proved::{Assembler, AssemblerAnswer, Head, Item, Report, Written, ITEMS};
+
+/// Fields of a report beside its items.
+const BESIDE_ITEMS: usize = 9;
 
 impl Trial {
     /// A report, often unfit.
@@ -16,16 +19,16 @@ impl Trial {
             return report;
         }
         let count = report.item_count;
-        match random.below(8) {
+        match random.below(10) {
             // One of the fields beside the items.
             0 | 1 => {
                 let mut fields = report.fields();
-                fields.truncate(8);
+                fields.truncate(BESIDE_ITEMS);
                 random.damage(fields);
             }
             2 => {
                 let mut fields = report.fields();
-                fields.truncate(8 + 2 * count);
+                fields.truncate(BESIDE_ITEMS + 2 * count);
                 random.damage(fields);
             }
             3 => random.damage(report.fields()),
@@ -34,10 +37,21 @@ impl Trial {
                 let items: Vec<_> = (0..random.index(ITEMS + 1))
                     .map(|_| sender::random_item(random))
                     .collect();
-                report = sender::multi_report(sender::random_head(random), &items);
+                report = sender::multi_report(sender::random_head(random), 0, &items);
             }
             5 if count > 0 => report.items[count - 1] = Item::default(),
             6 if count > 0 => report.items[count - 1].label = 15,
+            // Mostly where there is no place for it.
+            7 => report.real_location = random.short(16),
+            8 => {
+                // As many bits of items as there are at home.
+                let head = Head {
+                    location: sender::flt_code(random.byte(4), random.byte(6)),
+                    ..sender::random_head(random)
+                };
+                let items = sender::random_items(random, CONTENT_BITS);
+                report = sender::multi_report(head, random.short(16), &items);
+            }
             // An unused place.
             _ if count < ITEMS => {
                 let place = count + random.index(ITEMS - count);
@@ -92,11 +106,31 @@ impl Trial {
         let beyond = report.item_count > ITEMS;
         let mut unused = report.items.iter().skip(report.item_count);
         let unused = unused.any(|&item| item != Item::default());
+        let inter_road = sender::is_inter_road(&report);
+        let misplaced = report.real_location != 0 && !inter_road;
+        let items = &report.items[..report.item_count.min(ITEMS)];
+        let known = items.iter().all(|item| item.label < 15);
+        let bits = if known { sender::length(items) } else { 0 };
+        let over = bits > sender::item_bits(report.head);
         let tally = &mut self.tally;
         tally.mark("report write: another form", other_form);
         tally.mark("report write: 29 items or more", beyond);
         tally.mark("report write: an unused place not 0", unused);
-        if other_form || beyond || unused {
+        for (form, mark) in [
+            (0, "report write: a real location of a single-group report"),
+            (1, "report write: a real location of a report at home"),
+        ] {
+            tally.mark(mark, misplaced && report.form == form);
+        }
+        tally.mark(
+            "report write: items of an INTER-ROAD report that fit at home alone",
+            inter_road && over && bits <= CONTENT_BITS,
+        );
+        tally.mark(
+            "report write: an INTER-ROAD report",
+            plain && inter_road && proved.refusal == 0,
+        );
+        if other_form || beyond || unused || misplaced || over {
             tally.expect(Call::ReportWrite, &input, proved.refusal, 9);
         }
     }
@@ -107,10 +141,9 @@ impl Trial {
         if random.once_in(3) {
             return Message::single(random);
         }
-        let head = sender::random_head(random);
+        let report = sender::random_multi(random);
         let ci = random.ci();
-        let items = sender::random_items(random, CONTENT_BITS);
-        Message::multi(head, ci, &items, 0)
+        Message::multi(report, ci, 0)
     }
 
     /// One step on both sides. Refusals 5, 7 and 8 empty the state, the others keep it.
@@ -163,10 +196,10 @@ impl Trial {
                 1 => Message::single(&mut self.random).words[0],
                 _ if state.ci > 0 && !self.random.once_in(10) => self.next_word(&state, &parts),
                 _ => {
-                    let items = sender::random_items(&mut self.random, CONTENT_BITS);
-                    parts = sender::parts(&items);
+                    let report = sender::random_multi(&mut self.random);
+                    parts = sender::parts(&report);
                     let ci = self.random.ci();
-                    sender::first_word(ci, sender::random_head(&mut self.random))
+                    sender::first_word(ci, report.head)
                 }
             };
             let answer = self.step(state, word);
@@ -185,15 +218,54 @@ impl Trial {
             tally.mark("assembler: three later groups taken", three);
             let full = answer.report.item_count == ITEMS;
             tally.mark("assembler: 28 items", full);
+            let inter_road = sender::is_inter_road(&answer.report);
+            let none = inter_road && answer.report.item_count == 0;
+            let full = inter_road && answer.report.item_count == 24;
+            tally.mark("assembler: an INTER-ROAD report", inter_road);
+            tally.mark("assembler: an INTER-ROAD report without items", none);
+            tally.mark("assembler: an INTER-ROAD report of 24 items", full);
             state = answer.next;
+        }
+    }
+
+    /// A message of which the content is refused, at home and INTER-ROAD.
+    pub fn assembler_refusal(&mut self) {
+        let (head, words, refusal) = sender::refused_message(&mut self.random);
+        let mut state = Assembler::default();
+        let mut refusals = vec![];
+        for &word in &words {
+            let answer = self.step(state, word);
+            state = answer.next;
+            refusals.push(answer.refusal);
+        }
+        let mut meant = vec![0; words.len()];
+        meant[words.len() - 1] = refusal;
+        let found = (refusals, state);
+        let meant = (meant, Assembler::default());
+        self.tally.expect(Call::AssemblerStep, &words, found, meant);
+        for (of, home, abroad) in [
+            (
+                7,
+                "assembler: refusal 7 at home",
+                "assembler: refusal 7, INTER-ROAD",
+            ),
+            (
+                8,
+                "assembler: refusal 8 at home",
+                "assembler: refusal 8, INTER-ROAD",
+            ),
+        ] {
+            let foreign = sender::is_flt(head.location);
+            self.tally.mark(home, refusal == of && !foreign);
+            self.tally.mark(abroad, refusal == of && foreign);
         }
     }
 
     /// One call on a state that calls may or may not reach.
     pub fn assembler_state(&mut self) {
         let random = &mut self.random;
-        let items = sender::random_items(random, CONTENT_BITS);
-        let parts = sender::parts(&items);
+        let report = sender::random_multi(random);
+        let parts = sender::parts(&report);
         let (count, gsi) = match random.below(3) {
             0 => (random.below(5) as u8, random.below(5) as u8),
             _ => random.pick(&[(0, 0), (1, 1), (1, 2), (1, 3), (2, 1), (2, 2), (3, 1)]),
@@ -208,7 +280,7 @@ impl Trial {
         };
         let mut state = Assembler {
             ci: random.ci(),
-            first_group: sender::random_head(random),
+            first_group: report.head,
             gsi,
             later_groups: count,
             contents: [part(0), part(1), part(2)],

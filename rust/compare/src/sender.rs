@@ -2,7 +2,7 @@
 //! must answer is known without either program.
 
 use crate::random::Random;
-use proved::{DrmUnit, Fig, Head, Item, RdsGroup, Report, SystemFields, WordFields};
+use proved::{DrmUnit, Fig, Head, Item, RdsGroup, Report, Service, SystemFields, WordFields};
 
 /// Bits of the value after labels 0 to 14.
 const WIDTHS: [u32; 15] = [3, 3, 5, 5, 5, 8, 8, 8, 8, 11, 16, 16, 16, 16, 0];
@@ -15,6 +15,8 @@ const SEPARATOR: Item = Item {
 const DIVERSION: Item = Item { label: 1, value: 5 };
 /// The most bits of content.
 pub const CONTENT_BITS: usize = 112;
+/// Bits of a real location, which stand before the items.
+const REAL_BITS: usize = 16;
 /// Words are below this.
 pub const WORD_LIMIT: u64 = 1 << 37;
 /// The most words of 37 bits in a FIG.
@@ -41,6 +43,13 @@ impl Bits {
     pub fn add(&mut self, value: impl Into<u64>, width: usize) {
         let value = value.into();
         self.0.extend((0..width).rev().map(|i| value >> i & 1 == 1));
+    }
+
+    fn add_items(&mut self, items: &[Item]) {
+        for &item in items {
+            self.add(item.label, 4);
+            self.add(item.value, width(item));
+        }
     }
 
     fn pad(&mut self, length: usize) {
@@ -83,12 +92,31 @@ pub fn checked(mut bytes: Vec<u8>) -> Vec<u8> {
     bytes
 }
 
+/// The code of a foreign location table.
+pub fn flt_code(country: u8, ltn: u8) -> u16 {
+    Bits::of(&[(63, 6), (country.into(), 4), (ltn.into(), 6)]).number() as u16
+}
+
+/// Whether a location code is one of a foreign location table: six ones.
+pub fn is_flt(code: u16) -> bool {
+    code >> 10 == 63
+}
+
+/// A location code, often of a foreign location table.
+pub fn random_location(random: &mut Random) -> u16 {
+    match random.below(6) {
+        0 => flt_code(random.byte(4), random.byte(6)),
+        1 => random.pick(&[0xFBFF, 0xFC00]),
+        _ => random.short(16),
+    }
+}
+
 pub fn random_head(random: &mut Random) -> Head {
     Head {
         direction: random.byte(1),
         extent: random.byte(3),
         event: random.short(11),
-        location: random.short(16),
+        location: random_location(random),
     }
 }
 
@@ -257,15 +285,88 @@ pub fn random_items(random: &mut Random, most: usize) -> Vec<Item> {
     items
 }
 
-/// The parts of 28 bits that items take, at least one.
-pub fn parts(items: &[Item]) -> Vec<u32> {
-    let mut bits = Bits::default();
-    for &item in items {
-        bits.add(item.label, 4);
-        bits.add(item.value, width(item));
+/// Whether a report is INTER-ROAD.
+pub fn is_inter_road(report: &Report) -> bool {
+    report.form == 1 && is_flt(report.head.location)
+}
+
+/// The bits that a multi-group message of this head has for items.
+pub fn item_bits(head: Head) -> usize {
+    match is_flt(head.location) {
+        true => CONTENT_BITS - REAL_BITS,
+        false => CONTENT_BITS,
     }
+}
+
+/// Parts of 28 bits, at least one, the last one filled with zero bits.
+fn parts_of(mut bits: Bits) -> Vec<u32> {
     bits.pad(28);
     bits.numbers(28).iter().map(|&part| part as u32).collect()
+}
+
+/// The parts that items alone take.
+pub fn item_parts(items: &[Item]) -> Vec<u32> {
+    let mut bits = Bits::default();
+    bits.add_items(items);
+    parts_of(bits)
+}
+
+/// The content of a multi-group report.
+fn content(report: &Report) -> Bits {
+    let mut bits = Bits::default();
+    if is_inter_road(report) {
+        bits.add(report.real_location, REAL_BITS);
+    }
+    bits.add_items(&report.items[..report.item_count]);
+    bits
+}
+
+/// The parts that a multi-group report takes.
+pub fn parts(report: &Report) -> Vec<u32> {
+    parts_of(content(report))
+}
+
+/// The words of a multi-group message.
+fn words_of(head: Head, ci: u8, parts: &[u32]) -> Vec<u64> {
+    let mut words = vec![first_word(ci, head)];
+    words.extend(parts.iter().enumerate().map(|(i, &part)| {
+        let gsi = parts.len() - 1 - i;
+        later_word(ci, u8::from(i == 0), gsi as u8, part)
+    }));
+    words
+}
+
+/// The head and the words of a message whose content is refused after some items, and the refusal.
+pub fn refused_message(random: &mut Random) -> (Head, Vec<u64>, u8) {
+    let report = random_multi(random);
+    let mut bits = content(&report);
+    let groups = parts(&report).len();
+    let mut left = 28 * groups - bits.0.len();
+    if left == 0 && groups < 4 {
+        left = 28;
+    }
+    // Labels with a value that does not fit.
+    let long = |label: &usize| 4 + WIDTHS[*label] as usize > left;
+    let long: Vec<_> = (1..WIDTHS.len()).filter(long).collect();
+    let refusal = match left {
+        0 => return refused_message(random),
+        1..4 => {
+            bits.add(1 + random.below((1 << left) - 1), left);
+            7
+        }
+        _ if long.is_empty() || random.once_in(2) => {
+            bits.add(15_u8, 4);
+            bits.add(random.bits(left as u32 - 4), left - 4);
+            8
+        }
+        _ => {
+            bits.add(random.pick(&long) as u64, 4);
+            bits.add(random.bits(left as u32 - 4), left - 4);
+            7
+        }
+    };
+    let words = words_of(report.head, random.ci(), &parts_of(bits));
+    (report.head, words, refusal)
 }
 
 /// A message: its report and its words.
@@ -279,10 +380,11 @@ pub struct Message {
 
 /// A multi-group report: its duration is the first item's of label 0, and it has a diversion if
 /// an item says so.
-pub fn multi_report(head: Head, items: &[Item]) -> Report {
+pub fn multi_report(head: Head, real_location: u16, items: &[Item]) -> Report {
     let duration = items.iter().find(|item| item.label == 0);
     let mut report = Report {
         head,
+        real_location,
         item_count: items.len(),
         diversion: items.contains(&DIVERSION).into(),
         duration: duration.map_or(0, |item| item.value as u8),
@@ -291,6 +393,22 @@ pub fn multi_report(head: Head, items: &[Item]) -> Report {
     };
     report.items[..items.len()].copy_from_slice(items);
     report
+}
+
+/// A multi-group report that fits, of this head.
+pub fn multi_of(random: &mut Random, head: Head) -> Report {
+    let real = match is_flt(head.location) {
+        true => random_location(random),
+        false => 0,
+    };
+    let items = random_items(random, item_bits(head));
+    multi_report(head, real, &items)
+}
+
+/// A multi-group report that fits.
+pub fn random_multi(random: &mut Random) -> Report {
+    let head = random_head(random);
+    multi_of(random, head)
 }
 
 impl Message {
@@ -308,33 +426,23 @@ impl Message {
         }
     }
 
-    /// A multi-group message of these items; `spare` more later groups of zero bits, as far as
+    /// The message of a multi-group report; `spare` more later groups of zero bits, as far as
     /// they fit.
-    pub fn multi(head: Head, ci: u8, items: &[Item], spare: usize) -> Self {
-        let mut parts = parts(items);
+    pub fn multi(report: Report, ci: u8, spare: usize) -> Self {
+        let mut parts = parts(&report);
         parts.resize((parts.len() + spare).min(4), 0);
-        let mut words = vec![first_word(ci, head)];
-        let count = parts.len();
-        words.extend(parts.iter().enumerate().map(|(i, &part)| {
-            let gsi = count - 1 - i;
-            later_word(ci, u8::from(i == 0), gsi as u8, part)
-        }));
-        Self {
-            ci,
-            report: multi_report(head, items),
-            words,
-        }
+        let words = words_of(report.head, ci, &parts);
+        Self { ci, report, words }
     }
 
     pub fn random_multi(random: &mut Random, ci: u8) -> Self {
-        let head = random_head(random);
-        let items = random_items(random, CONTENT_BITS);
+        let report = random_multi(random);
         let spare = if random.once_in(4) {
             random.index(4)
         } else {
             0
         };
-        Self::multi(head, ci, &items, spare)
+        Self::multi(report, ci, spare)
     }
 
     pub fn random(random: &mut Random) -> Self {
@@ -442,4 +550,61 @@ pub fn expiry(minute: u32, lto: i8, life: u16) -> u32 {
         _ => Some(minute + i64::from(life)),
     };
     end.unwrap_or_default() as u32
+}
+
+/// A location in all its parts.
+#[derive(Clone, Copy, Debug, PartialEq, Eq)]
+pub struct Location {
+    pub country: u8,
+    pub ltn: u8,
+    pub code: u16,
+}
+
+/// The location of a report of a service: the real one if it is INTER-ROAD.
+pub fn location(report: &Report, service: Service) -> Location {
+    let flt = report.head.location;
+    match is_inter_road(report) {
+        true => Location {
+            country: (flt / 64 % 16) as u8,
+            ltn: (flt % 64) as u8,
+            code: report.real_location,
+        },
+        false => Location {
+            country: service.country,
+            ltn: service.ltn,
+            code: flt,
+        },
+    }
+}
+
+/// The report that a record of it reads back as: with the service's own FLT code it is at home.
+pub fn read_back(mut report: Report, service: Service) -> Report {
+    if is_inter_road(&report) && report.head.location == flt_code(service.country, service.ltn) {
+        report.head.location = report.real_location;
+        report.real_location = 0;
+    }
+    report
+}
+
+/// The bytes of a record.
+pub fn record(report: &Report, service: Service, expiry: u32, class: u8) -> Vec<u8> {
+    let Location { country, ltn, code } = location(report, service);
+    let items = &report.items[..report.item_count];
+    let groups = match report.form {
+        0 => 1,
+        _ => 1 + item_parts(items).len(),
+    };
+    let mut content = Bits::default();
+    content.add_items(items);
+    content.pad(CONTENT_BITS);
+    let head = report.head;
+    let mut record = vec![1, groups as u8, service.sid, service.ltn];
+    record.extend(code.to_le_bytes());
+    record.extend(head.event.to_le_bytes());
+    record.extend([head.direction, head.extent]);
+    record.extend([report.diversion, report.duration]);
+    record.extend(expiry.to_le_bytes());
+    record.extend(content.bytes());
+    record.extend([class, service.country, country, ltn]);
+    record
 }

@@ -1,13 +1,16 @@
 //! The message table and its clock.
 
+use std::fmt::Debug;
+use std::ops::Range;
+
+use proved::RECORD_BYTES as RECORD;
 use proved::{ExpiryAnswer, Head, Report, Service, TableAnswer, TableReading, Taking};
 
 use crate::fields::Fields;
-use crate::sender::{self, Message, CONTENT_BITS};
+use crate::sender::{self, Location, Message};
 use crate::tally::Call;
 use crate::Trial;
 
-const RECORD: usize = 32;
 const LARGEST: u32 = 4_000_000_000;
 
 /// A catalogue and lives.
@@ -21,34 +24,78 @@ const COUNTRIES: [u8; 2] = [1, 15];
 const NUMBERS: [u8; 2] = [0, 63];
 const LOCATIONS: [u16; 4] = [1, 0x0100, 0xFBFF, 0];
 const CLASSES: [u16; 3] = [1, 2, 63];
+/// Codes at the first FLT code.
+const NEAR_FLT: [u16; 3] = [0xFBFF, 0xFC00, 0xFFFF];
 
-/// What an accepted take answers and leaves, by the rules' three steps over the bytes of a record
-/// one after the other. The record that is stored is taken from the table afterwards.
-fn meant_by(before: &[u8], taking: &Taking, after: &[u8]) -> (TableAnswer, Vec<u8>) {
+/// The number of these bytes of a record.
+fn number(record: &[u8], range: Range<usize>) -> u32 {
+    let bytes = record[range].iter().rev();
+    bytes.fold(0, |number, &byte| number << 8 | u32::from(byte))
+}
+
+/// The service of a record.
+fn service_of(record: &[u8]) -> Service {
+    Service {
+        country: record[31],
+        ltn: record[3],
+        sid: record[2],
+    }
+}
+
+/// The location of a record.
+fn location_of(record: &[u8]) -> Location {
+    Location {
+        country: record[32],
+        ltn: record[33],
+        code: number(record, 4..6) as u16,
+    }
+}
+
+/// Whether a location is in the service's own table.
+fn at_home(location: Location, service: Service) -> bool {
+    (location.country, location.ltn) == (service.country, service.ltn)
+}
+
+/// What an accepted take answers and leaves.
+struct Meant {
+    answer: TableAnswer,
+    table: Vec<u8>,
+    /// The locations of records that would match but for the table of their location.
+    near: Vec<Location>,
+}
+
+/// What an accepted take means, by the rules' three steps over the bytes of a record one after the
+/// other.
+fn meant_by(before: &[u8], taking: &Taking) -> Meant {
     let Taking {
         report,
         service,
         minute,
+        lto,
         ..
     } = *taking;
     let entry = taking.catalogue[usize::from(report.head.event)];
     let (kind, class) = (entry >> 6 & 3, entry as u8 & 63);
+    let duration_type = usize::from(entry >> 8 & 1);
+    let life = taking.lives[8 * duration_type + usize::from(report.duration)];
+    let location = sender::location(&report, service);
     let mut answer = TableAnswer::default();
     let mut table = before.to_vec();
+    let mut near = Vec::new();
     for record in table.chunks_mut(RECORD).filter(|record| record[0] == 1) {
-        let of = |range: std::ops::Range<usize>| {
-            let bytes = record[range].iter().rev();
-            bytes.fold(0, |number, &byte| number << 8 | u32::from(byte))
-        };
-        let expired = of(12..16) <= minute;
-        let matched = (kind == 1 || kind == 2)
-            && of(4..6) == report.head.location.into()
-            && (record[31], record[3], record[2]) == (service.country, service.ltn, service.sid)
+        let of = location_of(record);
+        let expired = number(record, 12..16) <= minute;
+        let alike = (kind == 1 || kind == 2)
+            && service_of(record) == service
+            && of.code == location.code
             && (record[8], record[30]) == (report.head.direction, class);
+        let matched = alike && (of.country, of.ltn) == (location.country, location.ltn);
         if expired {
             answer.expired += 1;
         } else if matched {
             answer.matched += 1;
+        } else if alike {
+            near.push(of);
         }
         if expired || matched {
             record.fill(0);
@@ -56,12 +103,17 @@ fn meant_by(before: &[u8], taking: &Taking, after: &[u8]) -> (TableAnswer, Vec<u
     }
     let free = table.chunks(RECORD).position(|record| record[0] == 0);
     if let (1, Some(place)) = (kind, free) {
-        let stored = place * RECORD..(place + 1) * RECORD;
-        table[stored.clone()].copy_from_slice(&after[stored]);
+        let expiry = sender::expiry(minute, lto, life);
+        let record = sender::record(&report, service, expiry, class);
+        table[place * RECORD..][..RECORD].copy_from_slice(&record);
         answer.stored = 1;
         answer.place = place;
     }
-    (answer, table)
+    Meant {
+        answer,
+        table,
+        near,
+    }
 }
 
 impl Trial {
@@ -105,15 +157,21 @@ impl Trial {
     fn record(&mut self, minute: u32) -> [u8; RECORD] {
         let random = &mut self.random;
         let mut record = [0; RECORD];
-        let message = Message::random(random);
-        let mut groups = message.words.len();
-        let mut content: Vec<u64> = message.words[1..].iter().map(|w| w % (1 << 28)).collect();
+        let report = Message::random(random).report;
+        let mut content = match report.form {
+            0 => vec![],
+            _ => sender::item_parts(&report.items[..report.item_count]),
+        };
         if random.once_in(4) {
-            groups = 1 + random.index(5);
-            content = (1..groups).map(|_| random.bits(28)).collect();
+            let groups = 1 + random.index(5);
+            content = (1..groups).map(|_| random.bits(28) as u32).collect();
+        } else if report.form == 1 && random.once_in(4) {
+            // More groups than the fewest.
+            content.resize((content.len() + random.index(4)).min(4), 0);
         }
+        let groups = 1 + content.len();
         content.resize(4, 0);
-        let fields: Vec<_> = content.iter().map(|&part| (part, 28)).collect();
+        let fields: Vec<_> = content.iter().map(|&part| (part.into(), 28)).collect();
         let near = minute.wrapping_add(random.below(6) as u32).wrapping_sub(2);
         let expiry = match random.below(4) {
             0 => random.number() as u32,
@@ -124,14 +182,17 @@ impl Trial {
         record[1] = groups as u8;
         record[2] = random.pick(&NUMBERS);
         record[3] = random.pick(&NUMBERS);
-        let location = random.pick(&LOCATIONS);
+        let location = match random.once_in(16) {
+            true => random.pick(&NEAR_FLT),
+            false => random.pick(&LOCATIONS),
+        };
         record[4..6].copy_from_slice(&location.to_le_bytes());
         let event = random.short(11);
         record[6..8].copy_from_slice(&event.to_le_bytes());
         record[8] = random.byte(1);
         record[9] = random.byte(3);
-        record[10] = message.report.diversion;
-        record[11] = message.report.duration;
+        record[10] = report.diversion;
+        record[11] = report.duration;
         if random.once_in(8) {
             record[10] = random.byte(1);
             record[11] = random.byte(3);
@@ -140,7 +201,17 @@ impl Trial {
         record[16..30].copy_from_slice(&sender::Bits::of(&fields).bytes());
         record[30] = random.pick(&CLASSES) as u8;
         record[31] = random.pick(&COUNTRIES);
+        self.locate(&mut record);
         record
+    }
+
+    /// Sets the table of a record's location: the service's own, or any of a few.
+    fn locate(&mut self, record: &mut [u8; RECORD]) {
+        let random = &mut self.random;
+        (record[32], record[33]) = match random.once_in(2) {
+            true => (record[31], record[3]),
+            false => (random.pick(&COUNTRIES), random.pick(&NUMBERS)),
+        };
     }
 
     /// A table around a minute, often malformed.
@@ -154,21 +225,35 @@ impl Trial {
         let count = self.random.pick(sizes);
         let free = self.random.pick(&[1, 2, 10, 1000]);
         let mut table = vec![0; RECORD * count];
+        let mut last = self.record(minute);
         for record in table.chunks_mut(RECORD) {
-            if !self.random.once_in(free) {
-                record.copy_from_slice(&self.record(minute));
+            if self.random.once_in(free) {
+                continue;
             }
+            if self.random.once_in(4) {
+                // The one before it again, or but for the table of its location.
+                if self.random.once_in(2) {
+                    self.locate(&mut last);
+                }
+            } else {
+                last = self.record(minute);
+            }
+            record.copy_from_slice(&last);
         }
         if !well_formed {
             let random = &mut self.random;
             let at = random.index(table.len());
-            match random.below(8) {
+            match random.below(9) {
                 0 => table.truncate(at),
                 1 => table.resize(RECORD * 1025, 0),
                 2 => table.push(0),
                 3 | 4 => table[at] ^= 1 << random.below(8),
                 5 => table[at] = random.number() as u8,
                 6 => table[at / RECORD * RECORD] = random.below(3) as u8,
+                7 => {
+                    let at = at / RECORD * RECORD + 32 + random.index(2);
+                    table[at] = random.pick(&[15, 16, 63, 64, 255]);
+                }
                 _ => {
                     let at = at / RECORD * RECORD;
                     table[at + 1] = random.below(8) as u8;
@@ -207,13 +292,53 @@ impl Trial {
             return self.any_report();
         }
         let random = &mut self.random;
-        let mut report = Message::random(random).report;
-        report.head.event = random.short(11);
-        report.head.location = if random.once_in(16) {
-            random.pick(&[0xFC00, 0xFBFF, 0xFFFF])
+        let code = if random.once_in(16) {
+            random.pick(&NEAR_FLT)
         } else {
             random.pick(&LOCATIONS)
         };
+        let mut head = sender::random_head(random);
+        head.location = code;
+        if random.once_in(3) {
+            head.location = sender::flt_code(random.pick(&COUNTRIES), random.pick(&NUMBERS));
+            if !random.once_in(8) {
+                let report = sender::multi_of(random, head);
+                return Report {
+                    real_location: code,
+                    ..report
+                };
+            }
+        } else if !random.once_in(3) {
+            return sender::multi_of(random, head);
+        }
+        Report {
+            head,
+            ..Message::single(random).report
+        }
+    }
+
+    /// The report with the code, the direction and the class of a record, and in an INTER-ROAD one
+    /// mostly the table of its location.
+    fn alike(&mut self, mut report: Report, record: &[u8], lists: &Lists) -> Report {
+        let random = &mut self.random;
+        let location = location_of(record);
+        if sender::is_inter_road(&report) {
+            report.real_location = location.code;
+            if !random.once_in(3) {
+                report.head.location = sender::flt_code(location.country, location.ltn);
+            }
+        } else {
+            report.head.location = location.code;
+        }
+        report.head.direction = record[8];
+        let class = |event: &u16| {
+            let entry = lists.catalogue.get(usize::from(*event));
+            entry.is_some_and(|entry| entry & 63 == record[30].into())
+        };
+        let events: Vec<_> = (0..64).map(|_| random.short(11)).filter(class).collect();
+        if !events.is_empty() {
+            report.head.event = random.pick(&events);
+        }
         report
     }
 
@@ -240,7 +365,7 @@ impl Trial {
         } else {
             lists
         };
-        let report = self.arrival();
+        let mut report = self.arrival();
         let minute = self.next_minute(*clock);
         let random = &mut self.random;
         let mut service = Service {
@@ -248,6 +373,14 @@ impl Trial {
             ltn: random.pick(&NUMBERS),
             sid: random.pick(&NUMBERS),
         };
+        let records = table.as_chunks::<RECORD>().0.iter();
+        let used: Vec<_> = records.filter(|record| record[0] == 1).collect();
+        if !used.is_empty() && random.once_in(3) {
+            let record = random.pick(&used);
+            service = service_of(record);
+            report = self.alike(report, record, lists);
+        }
+        let random = &mut self.random;
         if random.once_in(16) {
             random.damage(service.fields());
         }
@@ -271,10 +404,28 @@ impl Trial {
         let input = (&entry, &taking);
         self.tally
             .agree_lent(Call::TableTake, &input, &entry, (proved, &a), (second, &b));
+        let location = sender::location(&report, service);
+        let inter_road = sender::is_inter_road(&report);
+        let home = at_home(location, service);
+        let mut near = vec![];
         if proved.refusal == 0 {
-            let (answer, table) = meant_by(&entry.0, &taking, &a.0);
-            self.tally
-                .expect(Call::TableTake, &input, (proved, &a.0), (answer, &table));
+            let meant = meant_by(&entry.0, &taking);
+            self.tally.expect(
+                Call::TableTake,
+                &input,
+                (proved, &a.0),
+                (meant.answer, &meant.table),
+            );
+            near = meant.near;
+        }
+        if matches!(proved.refusal, 0 | 11 | 12 | 14) {
+            let foreign = proved.refusal == 12;
+            let meant = sender::is_flt(location.code);
+            self.tally.expect(Call::TableTake, &input, foreign, meant);
+        }
+        if report.real_location != 0 && !inter_road {
+            let unfit = matches!(proved.refusal, 9 | 10);
+            self.tally.expect(Call::TableTake, &input, unfit, true);
         }
         let tally = &mut self.tally;
         let unstored = proved.matched > 0 && proved.stored == 0;
@@ -288,6 +439,36 @@ impl Trial {
         tally.mark("take: matched and not stored", unstored);
         let other_form = report.form > 1 && matches!(proved.refusal, 9);
         tally.mark("take: another form", other_form);
+        let abroad = inter_road && !home;
+        let matched = proved.matched > 0;
+        tally.mark("take: INTER-ROAD, stored", abroad && proved.stored == 1);
+        tally.mark("take: INTER-ROAD, matched", abroad && matched);
+        tally.mark(
+            "take: INTER-ROAD, several matched",
+            abroad && proved.matched > 1,
+        );
+        let own = inter_road && home;
+        tally.mark("take: own FLT code, a home record matched", own && matched);
+        let near_home = near.iter().any(|&near| at_home(near, service));
+        tally.mark("take: INTER-ROAD, a home record stays", abroad && near_home);
+        let near_abroad = near.iter().any(|&near| !at_home(near, service));
+        tally.mark(
+            "take: INTER-ROAD, another table's record stays",
+            abroad && near_abroad,
+        );
+        tally.mark("take: at home, a foreign record stays", home && near_abroad);
+        let foreign = proved.refusal == 12;
+        tally.mark(
+            "take: 12 for an FLT code on a single-group report",
+            foreign && report.form == 0,
+        );
+        tally.mark("take: 12 for a real location", foreign && inter_road);
+        tally.mark("take: 12 for a real location, own FLT code", foreign && own);
+        let misplaced = report.real_location != 0 && !inter_road;
+        tally.mark(
+            "take: a real location without a place",
+            misplaced && proved.refusal == 9,
+        );
         (*table, *clock) = a;
     }
 
@@ -329,6 +510,10 @@ impl Trial {
             }
         }
         let used = proved.used == 1;
+        if used {
+            let record = &table[place * RECORD..][..RECORD];
+            self.expect_location(&input, record, &proved.report);
+        }
         let single = used && proved.report.form == 0;
         let multi = used && proved.report.form == 1;
         let free = proved == TableReading::default();
@@ -337,10 +522,44 @@ impl Trial {
         self.tally.mark("read: a free record", free);
     }
 
+    /// The location of a report read from a record, as its bytes say.
+    fn expect_location(&mut self, input: &dyn Debug, record: &[u8], report: &Report) {
+        let location = location_of(record);
+        let home = at_home(location, service_of(record));
+        let meant = match home {
+            true => (location.code, 0),
+            false => {
+                let flt = sender::flt_code(location.country, location.ltn);
+                (flt, location.code)
+            }
+        };
+        let found = (report.head.location, report.real_location);
+        self.tally.expect(Call::TableRead, input, found, meant);
+        let single = report.form == 0;
+        self.tally
+            .mark("read: an INTER-ROAD report", !home && !single);
+        self.tally
+            .mark("read: one group of a foreign location", !home && single);
+        let unread = home && sender::is_inter_road(report);
+        self.tally
+            .mark("read: an FLT code at home, several groups", unread);
+    }
+
     fn record_read(&mut self, record: &[u8]) -> TableReading {
         let proved = proved::record_read(record);
         let second = calls::record_read(record);
         self.tally.agree(Call::RecordRead, &record, proved, second);
+        if record.len() == RECORD && record[0] == 1 {
+            let Location { country, ltn, .. } = location_of(record);
+            let (country, ltn) = (country > 15, ltn > 63);
+            if country || ltn {
+                self.tally
+                    .expect(Call::RecordRead, &record, proved.refusal, 10);
+            }
+            let tally = &mut self.tally;
+            tally.mark("record read: a location's country over 15", country);
+            tally.mark("record read: a location's LTN over 63", ltn);
+        }
         proved
     }
 
@@ -359,30 +578,42 @@ impl Trial {
         self.read(&table);
     }
 
-    /// A report that was stored reads back.
+    /// A report that was stored reads back; one with the service's own FLT code as one at home.
     pub fn stored(&mut self, lists: &Lists) {
         let random = &mut self.random;
+        let service = Service {
+            country: random.byte(4),
+            ltn: random.byte(6),
+            sid: random.byte(6),
+        };
+        let code = random.pick(&LOCATIONS);
         let head = Head {
-            location: random.pick(&LOCATIONS),
+            location: code,
             ..sender::random_head(random)
         };
         let entry = lists.catalogue[usize::from(head.event)];
         if entry >> 6 & 3 != 1 {
             return;
         }
-        let mut report = Message::single(random).report;
-        report.head = head;
-        if !random.once_in(3) {
-            let items = sender::random_items(random, CONTENT_BITS);
-            report = sender::multi_report(head, &items);
-        }
+        let report = match random.below(6) {
+            0 | 1 => Report {
+                head,
+                ..Message::single(random).report
+            },
+            2 | 3 => sender::multi_of(random, head),
+            which => {
+                let location = match which {
+                    4 => sender::flt_code(random.byte(4), random.byte(6)),
+                    _ => sender::flt_code(service.country, service.ltn),
+                };
+                Report {
+                    real_location: code,
+                    ..sender::multi_of(random, Head { location, ..head })
+                }
+            }
+        };
         let mut table = [0; 4 * RECORD];
         let mut clock = 0;
-        let service = Service {
-            country: random.byte(4),
-            ltn: random.byte(6),
-            sid: random.byte(6),
-        };
         let minute = random.below(10_000) as u32;
         let lto = random.lto();
         let taking = Taking {
@@ -405,7 +636,7 @@ impl Trial {
         let duration_type = usize::from(entry >> 8 & 1);
         let life = lists.lives[8 * duration_type + usize::from(report.duration)];
         let meant = TableReading {
-            report,
+            report: sender::read_back(report, service),
             service,
             expiry: sender::expiry(minute, lto, life),
             used: 1,
@@ -414,6 +645,12 @@ impl Trial {
         self.tally.expect(Call::TableRead, &input, read, meant);
         self.tally.count(Call::TableTake, 0);
         self.tally.count(Call::TableRead, 0);
+        let inter_road = sender::is_inter_road(&report);
+        let own = meant.report != report;
+        self.tally
+            .mark("stored: INTER-ROAD, read back", inter_road && !own);
+        self.tally
+            .mark("stored: own FLT code, read back at home", own);
     }
 
     pub fn expiry(&mut self) {

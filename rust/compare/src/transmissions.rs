@@ -63,15 +63,33 @@ impl Trial {
         self.tally
             .expect(Call::Transmission, &input, &receiver.reports, &due);
         self.tally.count(Call::Transmission, 0);
-        let lossy = due.len() < messages.len();
-        for (of, mark) in [
-            (Carrier::Words, "transmission: words lost"),
-            (Carrier::Rds, "transmission: RDS groups lost"),
-            (Carrier::Fig, "transmission: FIGs lost"),
-            (Carrier::Drm, "transmission: data units lost"),
+        let lossy = due.len() < messages.len() && !due.is_empty();
+        let inter_road = due.iter().any(sender::is_inter_road);
+        for (of, lost, arrived) in [
+            (
+                Carrier::Words,
+                "transmission: words lost",
+                "transmission: an INTER-ROAD report of words, others lost",
+            ),
+            (
+                Carrier::Rds,
+                "transmission: RDS groups lost",
+                "transmission: an INTER-ROAD report of RDS groups, others lost",
+            ),
+            (
+                Carrier::Fig,
+                "transmission: FIGs lost",
+                "transmission: an INTER-ROAD report of FIGs, others lost",
+            ),
+            (
+                Carrier::Drm,
+                "transmission: data units lost",
+                "transmission: an INTER-ROAD report of data units, others lost",
+            ),
         ] {
+            self.tally.mark(lost, carrier == of && lossy);
             self.tally
-                .mark(mark, carrier == of && lossy && !due.is_empty());
+                .mark(arrived, carrier == of && lossy && inter_road);
         }
     }
 

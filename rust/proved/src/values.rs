@@ -4,6 +4,8 @@ use std::mem::{offset_of, size_of};
 
 /// The most items of a report.
 pub const ITEMS: usize = 28;
+/// Bytes of a record of the message table.
+pub const RECORD_BYTES: usize = 34;
 
 /// Structs of numbers, each with its size in bytes.
 macro_rules! values {
@@ -35,10 +37,12 @@ values! {
     }
 
     /// The items after their count are 0. Form 0 is a single-group report, 1 a multi-group one.
+    /// The real location is 0 but in an INTER-ROAD report: a multi-group one with an FLT code.
     Report, 136 {
         items: [Item; ITEMS],
         item_count: usize,
         head: Head,
+        real_location: u16,
         diversion: u8,
         duration: u8,
         form: u8,
@@ -207,7 +211,8 @@ values! {
 const _: () = {
     assert!(offset_of!(Report, item_count) == 112);
     assert!(offset_of!(Report, head) == 120);
-    assert!(offset_of!(Report, form) == 128);
+    assert!(offset_of!(Report, real_location) == 126);
+    assert!(offset_of!(Report, form) == 130);
     assert!(offset_of!(Assembler, first_group) == 2);
     assert!(offset_of!(Assembler, contents) == 12);
     assert!(offset_of!(AssemblerAnswer, next) == 136);

@@ -1,5 +1,7 @@
-//! Multi-group content: items of a 4-bit label and a value.
+//! Multi-group content: items of a 4-bit label and a value, in INTER-ROAD messages after the real
+//! location.
 
+use crate::inter_road::REAL_BITS;
 use crate::word::CONTENT_BITS;
 use crate::{require, Refusal};
 
@@ -91,26 +93,15 @@ impl Content {
     /// Reads the items; refuses 7 what does not fit, 8 label 15.
     #[inline]
     pub fn read(self) -> Result<Items, Refusal> {
-        let mut items = Items::NONE;
-        let mut bits = self.bits;
-        let mut left = u32::from(self.parts) * CONTENT_BITS;
-        while bits != 0 {
-            require(left >= LABEL_BITS, Refusal::Content)?;
-            let mut item = Item {
-                label: (bits >> (128 - LABEL_BITS)) as u8,
-                value: 0,
-            };
-            let width = item.width()?;
-            require(left >= LABEL_BITS + width, Refusal::Content)?;
-            // The label and up to 16 bits of value are the top of 32 bits.
-            let top = (bits >> 96) as u32 & ((1 << (32 - LABEL_BITS)) - 1);
-            item.value = (top >> (32 - LABEL_BITS - width)) as u16;
-            items.places[usize::from(items.count)] = item;
-            items.count += 1;
-            bits <<= LABEL_BITS + width;
-            left -= LABEL_BITS + width;
-        }
-        Ok(items)
+        read_items(self.bits, u32::from(self.parts) * CONTENT_BITS)
+    }
+
+    /// Reads the real location and the items after it; refuses as [`Content::read`].
+    #[inline]
+    pub fn read_foreign(self) -> Result<(u16, Items), Refusal> {
+        let real = (self.bits >> (128 - REAL_BITS)) as u16;
+        let left = u32::from(self.parts) * CONTENT_BITS - REAL_BITS;
+        Ok((real, read_items(self.bits << REAL_BITS, left)?))
     }
 
     /// Writes items in the fewest parts, at least one. Refuses 9 label 15, a value out of its
@@ -118,28 +109,73 @@ impl Content {
     /// that are not zero.
     #[inline]
     pub fn write(items: &Items) -> Result<Self, Refusal> {
-        let count = usize::from(items.count);
-        require(count <= MOST_ITEMS, Refusal::Unfit)?;
-        let (used, unused) = items.places.split_at(count);
-        let blank = Item::default();
-        let fit = used.last() != Some(&blank) && unused.iter().all(|place| *place == blank);
-        require(fit, Refusal::Unfit)?;
-        let mut bits = 0u128;
-        let mut length = 0;
-        for item in used {
-            let width = item.width().map_err(|_| Refusal::Unfit)?;
-            let fit =
-                u32::from(item.value) < 1 << width && length + LABEL_BITS + width <= MOST_BITS;
-            require(fit, Refusal::Unfit)?;
-            length += LABEL_BITS + width;
-            let code = u128::from(item.label) << width | u128::from(item.value);
-            bits |= code << (128 - length);
-        }
+        let (bits, length) = write_items(items)?;
+        Self::fewest(bits, length)
+    }
+
+    /// Writes a real location and items after it; refuses as [`Content::write`], the real
+    /// location's bits counted too.
+    #[inline]
+    pub fn write_foreign(real: u16, items: &Items) -> Result<Self, Refusal> {
+        let (bits, length) = write_items(items)?;
+        let real = u128::from(real) << (128 - REAL_BITS);
+        Self::fewest(real | bits >> REAL_BITS, REAL_BITS + length)
+    }
+
+    /// The fewest parts, at least one, that have so many bits; refuses 9 over 112.
+    #[inline]
+    fn fewest(bits: u128, length: u32) -> Result<Self, Refusal> {
+        require(length <= MOST_BITS, Refusal::Unfit)?;
         Ok(Self {
             parts: length.div_ceil(CONTENT_BITS).max(1) as u8,
             bits,
         })
     }
+}
+
+/// Reads the items from the top of `left` bits, zero below.
+#[inline]
+fn read_items(mut bits: u128, mut left: u32) -> Result<Items, Refusal> {
+    let mut items = Items::NONE;
+    while bits != 0 {
+        require(left >= LABEL_BITS, Refusal::Content)?;
+        let mut item = Item {
+            label: (bits >> (128 - LABEL_BITS)) as u8,
+            value: 0,
+        };
+        let width = item.width()?;
+        require(left >= LABEL_BITS + width, Refusal::Content)?;
+        // The label and up to 16 bits of value are the top of 32 bits.
+        let top = (bits >> 96) as u32 & ((1 << (32 - LABEL_BITS)) - 1);
+        item.value = (top >> (32 - LABEL_BITS - width)) as u16;
+        items.places[usize::from(items.count)] = item;
+        items.count += 1;
+        bits <<= LABEL_BITS + width;
+        left -= LABEL_BITS + width;
+    }
+    Ok(items)
+}
+
+/// The items from the top, zero below, and their number of bits, at most 112; else refuses 9.
+#[inline]
+fn write_items(items: &Items) -> Result<(u128, u32), Refusal> {
+    let count = usize::from(items.count);
+    require(count <= MOST_ITEMS, Refusal::Unfit)?;
+    let (used, unused) = items.places.split_at(count);
+    let blank = Item::default();
+    let fit = used.last() != Some(&blank) && unused.iter().all(|place| *place == blank);
+    require(fit, Refusal::Unfit)?;
+    let mut bits = 0u128;
+    let mut length = 0;
+    for item in used {
+        let width = item.width().map_err(|_| Refusal::Unfit)?;
+        let fit = u32::from(item.value) < 1 << width && length + LABEL_BITS + width <= MOST_BITS;
+        require(fit, Refusal::Unfit)?;
+        length += LABEL_BITS + width;
+        let code = u128::from(item.label) << width | u128::from(item.value);
+        bits |= code << (128 - length);
+    }
+    Ok((bits, length))
 }
 
 #[cfg(test)]
@@ -183,6 +219,44 @@ mod tests {
     #[test]
     fn most_items() {
         assert_eq!(read(&[0xEEE_EEEE; 4]), Ok(vec![(14, 0); MOST_ITEMS]));
+    }
+
+    #[test]
+    fn items_after_a_real_location() {
+        let read = |parts: &[u32]| Content::join(parts)?.read_foreign();
+        let items = |pairs: &[(u8, u16)]| {
+            let mut items = Items::NONE;
+            items.count = pairs.len() as u8;
+            for (place, &(label, value)) in items.places.iter_mut().zip(pairs) {
+                *place = Item { label, value };
+            }
+            items
+        };
+        for (parts, real, pairs) in [
+            (vec![0x01F_4000], 500, vec![]),
+            (vec![0x01F_4040], 500, vec![(0, 2)]),
+            (vec![0x01F_4350, 0x200_0000], 500, vec![(3, 10), (0, 2)]),
+            (vec![0xFC0_0000], 0xFC00, vec![]),
+            (vec![0x350_2000], 0x3502, vec![]),
+            (vec![0], 0, vec![]),
+            (vec![0x01C], 0, vec![(0, 0), (14, 0)]),
+        ] {
+            let items = items(&pairs);
+            let content = Content::join(&parts).unwrap();
+            assert_eq!(read(&parts), Ok((real, items)));
+            assert_eq!(Content::write_foreign(real, &items), Ok(content));
+        }
+        let separators = |count| items(&[(14, 0)].repeat(count));
+        let full = [0x01F_4EEE, 0xEEE_EEEE, 0xEEE_EEEE, 0xEEE_EEEE];
+        assert_eq!(read(&full), Ok((500, separators(24))));
+        let over = Content::write_foreign(500, &separators(25));
+        assert_eq!(over, Err(Refusal::Unfit));
+        assert!(Content::write(&separators(25)).is_ok());
+        // Label 10 with 8 bits left, then label 15.
+        assert_eq!(read(&[0x01F_4AFF]), Err(Refusal::Content));
+        assert_eq!(read(&[0x01F_4FFF]), Err(Refusal::Label15));
+        assert_eq!(read(&[]), Err(Refusal::Length));
+        assert_eq!(read(&[0; 5]), Err(Refusal::Length));
     }
 
     #[test]

@@ -13,6 +13,7 @@ pub mod content;
 pub mod crc;
 pub mod drm;
 pub mod fig;
+pub mod inter_road;
 pub mod rds;
 pub mod recording;
 pub mod report;
@@ -48,7 +49,7 @@ pub enum Refusal {
     Malformed = 10,
     /// Event unknown to the catalogue.
     UnknownEvent = 11,
-    /// Location of a foreign table.
+    /// A location's code is an FLT code.
     Foreign = 12,
     /// The minute goes back or is too large.
     Minute = 13,

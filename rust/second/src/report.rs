@@ -1,6 +1,7 @@
 //! The report, and its writing as words.
 
 use crate::content::{Content, Items};
+use crate::inter_road::{is_flt, Location};
 use crate::word::{Head, Word};
 use crate::{require, Refusal};
 
@@ -20,6 +21,8 @@ pub struct Report {
     /// Whether it takes two to five groups.
     pub multi: bool,
     pub head: Head,
+    /// The location in the table that the head's FLT code names; 0 if not INTER-ROAD.
+    pub real_location: u16,
     pub diversion: u8,
     pub duration: u8,
     pub items: Items,
@@ -47,6 +50,7 @@ impl Report {
         Self {
             multi: false,
             head,
+            real_location: 0,
             diversion,
             duration,
             items: Items::NONE,
@@ -56,15 +60,46 @@ impl Report {
     /// The report of a first group and its content; refuses 7 and 8 as [`Content::read`].
     #[inline]
     pub fn multi(head: Head, content: Content) -> Result<Self, Refusal> {
-        let items = content.read()?;
+        let (real_location, items) = if is_flt(head.location) {
+            content.read_foreign()?
+        } else {
+            (0, content.read()?)
+        };
+        Ok(Self::of_items(head, real_location, items))
+    }
+
+    /// The multi-group report of these items.
+    #[inline]
+    pub fn of_items(head: Head, real_location: u16, items: Items) -> Self {
         let (duration, diversion) = told(&items);
-        Ok(Self {
+        Self {
             multi: true,
             head,
+            real_location,
             diversion,
             duration,
             items,
-        })
+        }
+    }
+
+    /// Whether it is INTER-ROAD: of several groups and with an FLT code.
+    #[inline]
+    pub const fn is_inter_road(&self) -> bool {
+        self.multi && is_flt(self.head.location)
+    }
+
+    /// Its location as a service of this country and table number sends it.
+    #[inline]
+    pub const fn location(&self, country: u8, ltn: u8) -> Location {
+        if self.is_inter_road() {
+            Location::foreign(self.head.location, self.real_location)
+        } else {
+            Location {
+                country,
+                ltn,
+                code: self.head.location,
+            }
+        }
     }
 
     /// The number of groups it takes and its content; refuses 9 whatever a writer refuses,
@@ -73,8 +108,14 @@ impl Report {
     pub fn pack(&self) -> Result<(u8, Content), Refusal> {
         let fit = self.head.fits() && self.diversion <= 1 && self.duration <= 7;
         require(fit, Refusal::Unfit)?;
+        let inter_road = self.is_inter_road();
+        require(inter_road || self.real_location == 0, Refusal::Unfit)?;
         if self.multi {
-            let content = Content::write(&self.items)?;
+            let content = if inter_road {
+                Content::write_foreign(self.real_location, &self.items)?
+            } else {
+                Content::write(&self.items)?
+            };
             let agrees = told(&self.items) == (self.duration, self.diversion);
             require(agrees, Refusal::Unfit)?;
             Ok((1 + content.parts, content))
@@ -142,6 +183,7 @@ mod tests {
                 event: 401,
                 location: 500,
             },
+            real_location: 0,
             diversion: 0,
             duration: 2,
             items,

@@ -1,21 +1,20 @@
-//! The message table: 1 to 1,024 records of 32 lent bytes.
+//! The message table: 1 to 1,024 records of lent bytes.
 
 use crate::clock::{self, Utc};
 use crate::content::Content;
+use crate::inter_road::{flt_code, is_flt, Location};
 use crate::report::Report;
 use crate::word::{Head, CONTENT_BITS};
 use crate::{require, Refusal};
 
 /// Bytes of a record.
-pub const RECORD: usize = 32;
+pub const RECORD: usize = 34;
 /// The most records of a table.
 pub const MOST_RECORDS: usize = 1024;
 /// Entries of a catalogue.
 pub const EVENTS: usize = 2048;
 /// Lives: one for each duration of each duration type.
 pub const LIVES: usize = 16;
-/// Locations from here on are foreign.
-pub const FOREIGN: u16 = 0xFC00;
 
 type Record = [u8; RECORD];
 
@@ -35,16 +34,19 @@ const EXPIRY: usize = 12;
 const CONTENT: usize = 16;
 const CLASS: usize = 30;
 const COUNTRY: usize = 31;
+const LOCATION_COUNTRY: usize = 32;
+const LOCATION_LTN: usize = 33;
 
 /// The bits that are zero in bytes 2 to 11 of every record.
 const ZERO_BITS: u128 = u128::from_le_bytes([
     0, 0, 0xC0, 0xC0, 0, 0, 0, 0xF8, 0xFE, 0xF8, 0xFE, 0xF8, 0, 0, 0, 0,
 ]);
-/// The bits of the first half that two matching records share: use, service, location, direction.
+/// The bits of the first part that two matching records share: use, service, location's code,
+/// direction.
 const MATCH_BITS: u128 = u128::from_le_bytes([
     0xFF, 0, 0xFF, 0xFF, 0xFF, 0xFF, 0, 0, 0xFF, 0, 0, 0, 0, 0, 0, 0,
 ]);
-/// The bits that are zero in the second half (first byte highest) of a record of so many
+/// The bits that are zero in the second part (first byte highest) of a record of so many
 /// groups: the content after its 28 bits a later group, and the tops of class and country.
 const ZERO_TAIL: [u128; 6] = {
     let mut bits = [u128::MAX; 6];
@@ -56,6 +58,9 @@ const ZERO_TAIL: [u128; 6] = {
     }
     bits
 };
+
+/// The bits that are zero in the location's country and table number.
+const ZERO_LOCATION: u16 = u16::from_le_bytes([0xF0, 0xC0]);
 
 /// A service.
 #[derive(Clone, Copy, Debug, PartialEq, Eq)]
@@ -157,18 +162,22 @@ impl Lists<'_> {
     }
 }
 
-/// The first half of a record, first byte lowest.
+/// The first part of a record, 16 bytes, first byte lowest.
 #[inline]
 fn front(record: &Record) -> u128 {
-    let (front, _) = record.split_at(RECORD / 2);
-    u128::from_le_bytes(front.try_into().unwrap_or_default())
+    u128::from_le_bytes(record.first_chunk().copied().unwrap_or_default())
 }
 
-/// The second half of a record, first byte highest.
+/// The second part of a record, 16 bytes, first byte highest.
 #[inline]
 fn tail(record: &Record) -> u128 {
-    let (_, tail) = record.split_at(RECORD / 2);
-    u128::from_be_bytes(tail.try_into().unwrap_or_default())
+    u128::from_be_bytes(record[CONTENT..].first_chunk().copied().unwrap_or_default())
+}
+
+/// The number of two bytes of a record, low byte first.
+#[inline]
+fn number(record: &Record, at: usize) -> u16 {
+    u16::from_le_bytes([record[at], record[at + 1]])
 }
 
 #[inline]
@@ -184,8 +193,9 @@ fn expiry(record: &Record) -> u32 {
 #[inline]
 fn is_well_formed(record: &Record) -> bool {
     let (front, tail) = (front(record), tail(record));
+    let location = number(record, LOCATION_COUNTRY);
     if front as u8 == 0 {
-        return front | tail == 0;
+        return front | tail | u128::from(location) == 0;
     }
     let zero_tail = ZERO_TAIL[usize::from(record[GROUPS]).min(5)];
     (front as u8 == 1)
@@ -194,6 +204,7 @@ fn is_well_formed(record: &Record) -> bool {
         & (expiry(record) != 0)
         & (tail & zero_tail == 0)
         & (record[CLASS] != 0)
+        & (location & ZERO_LOCATION == 0)
 }
 
 /// The records of a well-formed table; else 10.
@@ -234,8 +245,8 @@ pub fn expire(table: &mut [u8], last: &mut Utc, minute: Utc) -> Result<usize, Re
 }
 
 /// Takes a report. Refuses, in this order, a malformed table, catalogue or lives (10), an unfit
-/// report, service or offset (9), the minute (13), a foreign location (12), an unknown event (11)
-/// and a lack of room (14).
+/// report, service or offset (9), the minute (13), a location whose code is an FLT code (12), an
+/// unknown event (11) and a lack of room (14).
 #[inline]
 pub fn take(
     table: &mut [u8],
@@ -251,27 +262,35 @@ pub fn take(
         lto,
         minute,
     } = arrival;
-    let (groups, content) = report.pack()?;
+    let mut packed = report.pack()?;
     let fit = service.fits() && lto.unsigned_abs() <= clock::LARGEST_LTO;
     require(fit, Refusal::Unfit)?;
     check_minute(*last, minute)?;
-    require(report.head.location < FOREIGN, Refusal::Foreign)?;
+    let location = report.location(service.country, service.ltn);
+    require(!is_flt(location.code), Refusal::Foreign)?;
     let event = Event(lists.catalogue[usize::from(report.head.event)]);
     let kind = event.kind();
     require(kind != Kind::Unknown, Refusal::UnknownEvent)?;
 
     let life = lists.lives[usize::from(8 * event.duration_type() + report.duration)];
+    if report.is_inter_road() {
+        // A record has the items alone.
+        let content = Content::write(&report.items)?;
+        packed = (1 + content.parts, content);
+    }
     let entry = Entry {
         report: *report,
         service,
         expiry: minute.expiry(lto, life)?.0,
     };
-    let new = entry.write(groups, content, event.class());
+    let new = entry.write(location, packed, event.class());
     let (new_front, new_tail) = (front(&new) & MATCH_BITS, tail(&new) as u16);
+    let new_location = number(&new, LOCATION_COUNTRY);
     let matches = |record: &Record| {
         kind != Kind::Null
             && front(record) & MATCH_BITS == new_front
             && tail(record) as u16 == new_tail
+            && number(record, LOCATION_COUNTRY) == new_location
     };
 
     // With no record free at the end none was freed, so refusal 14 finds the table as it was.
@@ -325,12 +344,27 @@ fn entry_of(record: &Record) -> Result<Option<Entry>, Refusal> {
     if is_free(record) {
         return Ok(None);
     }
-    let number = |at: usize| u16::from_le_bytes([record[at], record[at + 1]]);
+    let service = Service {
+        country: record[COUNTRY],
+        ltn: record[LTN],
+        sid: record[SID],
+    };
+    let location = Location {
+        country: record[LOCATION_COUNTRY],
+        ltn: record[LOCATION_LTN],
+        code: number(record, LOCATION),
+    };
+    let at_home = (location.country, location.ltn) == (service.country, service.ltn);
+    let (code, real_location) = if at_home {
+        (location.code, 0)
+    } else {
+        (flt_code(location.country, location.ltn), location.code)
+    };
     let head = Head {
         direction: record[DIRECTION],
         extent: record[EXTENT],
-        event: number(EVENT),
-        location: number(LOCATION),
+        event: number(record, EVENT),
+        location: code,
     };
     let report = if record[GROUPS] > 1 {
         // A multi-group report's duration and diversion are what its items say.
@@ -338,41 +372,43 @@ fn entry_of(record: &Record) -> Result<Option<Entry>, Refusal> {
             parts: record[GROUPS] - 1,
             bits: tail(record) >> 16 << 16,
         };
-        Report::multi(head, content)?
+        Report::of_items(head, real_location, content.read()?)
     } else {
-        Report::single(record[DURATION], record[DIVERSION], head)
+        Report {
+            real_location,
+            ..Report::single(record[DURATION], record[DIVERSION], head)
+        }
     };
     Ok(Some(Entry {
         report,
-        service: Service {
-            country: record[COUNTRY],
-            ltn: record[LTN],
-            sid: record[SID],
-        },
+        service,
         expiry: expiry(record),
     }))
 }
 
 impl Entry {
-    /// The record of an entry that fits.
+    /// The record of an entry that fits, with its location, the groups and content of its items
+    /// alone, and its class.
     #[inline]
-    fn write(&self, groups: u8, content: Content, class: u8) -> Record {
+    fn write(&self, location: Location, (groups, content): (u8, Content), class: u8) -> Record {
         let head = self.report.head;
         let mut record = FREE;
         record[0] = 1;
         record[GROUPS] = groups;
         record[SID] = self.service.sid;
         record[LTN] = self.service.ltn;
-        record[LOCATION..EVENT].copy_from_slice(&head.location.to_le_bytes());
+        record[LOCATION..EVENT].copy_from_slice(&location.code.to_le_bytes());
         record[EVENT..DIRECTION].copy_from_slice(&head.event.to_le_bytes());
         record[DIRECTION] = head.direction;
         record[EXTENT] = head.extent;
         record[DIVERSION] = self.report.diversion;
         record[DURATION] = self.report.duration;
         record[EXPIRY..CONTENT].copy_from_slice(&self.expiry.to_le_bytes());
-        record[CONTENT..].copy_from_slice(&content.bits.to_be_bytes());
+        record[CONTENT..LOCATION_COUNTRY].copy_from_slice(&content.bits.to_be_bytes());
         record[CLASS] = class;
         record[COUNTRY] = self.service.country;
+        record[LOCATION_COUNTRY] = location.country;
+        record[LOCATION_LTN] = location.ltn;
         record
     }
 }
@@ -477,8 +513,8 @@ mod tests {
         let mut bench = Bench::new(4);
         assert_eq!(bench.take(101, 1, 1), stored(0, 0, 0));
         assert_eq!(bench.take(104, 1, 1), stored(0, 0, 1));
-        let (first, rest) = bench.table.split_at_mut(64);
-        rest[..32].copy_from_slice(&first[..32]);
+        let (first, rest) = bench.table.split_at_mut(2 * RECORD);
+        rest[..RECORD].copy_from_slice(&first[..RECORD]);
         assert_eq!(bench.take(101, 2, 1), stored(0, 0, 3));
         assert_eq!(bench.take(101, 3, 1), Err(Refusal::NoRoom));
         assert_eq!(bench.take(101, 1, 2), stored(0, 2, 0));
@@ -492,7 +528,7 @@ mod tests {
         assert_eq!(bench.take(103, 1, 2), freed(0, 0));
         assert_eq!(bench.take(102, 1, 2), freed(0, 1));
         assert_eq!(bench.take(103, 1, 61), freed(2, 0));
-        assert_eq!(bench.table, [0; 128]);
+        assert_eq!(bench.table, [0; 4 * RECORD]);
     }
 
     #[test]
@@ -527,7 +563,8 @@ mod tests {
             (10, 1),
             (11, 7),
         ];
-        for (at, most) in limits.into_iter().chain([(30, 63), (31, 15)]) {
+        let ends = [(30, 63), (31, 15), (32, 15), (33, 63)];
+        for (at, most) in limits.into_iter().chain(ends) {
             assert!(!bad(at, most), "{at}");
             assert!(bad(at, most + 1), "{at}");
             assert!(bad(at, 255), "{at}");
@@ -539,9 +576,9 @@ mod tests {
             assert!(bad(at, 1), "{at}");
         }
         assert!(bad(0, 2));
-        for length in [0, 31, 33, 32 * 1025] {
+        for length in [0, RECORD - 1, RECORD + 1, RECORD * 1025] {
             assert_eq!(read(&vec![0; length], 0), Err(Refusal::Malformed));
         }
-        assert_eq!(read(&vec![0; 32 * 1024], 1023), Ok(None));
+        assert_eq!(read(&vec![0; RECORD * 1024], 1023), Ok(None));
     }
 }

@@ -3,4 +3,4 @@ use Rattle.c_values.proofs.reports.PlainReport.report.Statement.{statem
 use Rattle.c_values.proofs.reports.PlainReport.report.Tie as tie
 
 pub report-spec : {M : Type 1} → statement M
-report-spec = tie.close (tie.spec (search needs) (search needs) (λ c. cc))
+report-spec = tie.close (tie.spec (search needs) (search needs) (λ c. rw (c .form-from .ensures, c .before .count-from .ensures)))
