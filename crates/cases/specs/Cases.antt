@@ -6,9 +6,10 @@ use mathlib.Core.List.{List, [], _∷_}
 use lib.IntN.{pos, negsuc}
 use lib.ListN.{length, drop, replicate}
 use Rattle.bits.specs.Outcome.{gives, refused}
-use Rattle.word.specs.Samples.{single101, first401, later401, stray401}
+use Rattle.word.specs.Samples.{single101, first401, later401, stray401, head401}
 use Rattle.content.specs.Content.{content}
-use Rattle.report.specs.Read.{readReport}
+use Rattle.report.specs.Report.{multiReport}
+use Rattle.report.specs.Read.{readBits, readReport}
 use Rattle.report.specs.Samples.{report101, report401}
 use Rattle.assembler.specs.declared.Assembler.the-variants.{Empty}
 use Rattle.assembler.specs.declared.Answer.the-variants.{Nothing, Refused}
@@ -45,6 +46,8 @@ cases =
     ∷ case 4 (calls readReport Empty (first401 ∷ stray401 ∷ [])) (withoutReport opened401 Nothing ∷ withoutReport Empty (Refused 5) ∷ [])
     ∷ case 5 (content (replicate 28 false)) (gives [])
     ∷ case 5 (content (replicate 28 true)) (refused 8)
+    ∷ case 5 (readBits head401 (replicate 28 false)) (gives (multiReport head401 0 []))
+    ∷ case 5 (readBits head401 (replicate 28 true)) (refused 8)
     ∷ case 6 (systemOf 0x0466) (system.Taken (Table 17 1 0 0 1 1 0))
     ∷ case 7 (readUnit (checked (replicate 6 0)) 27) (drm.Taken bare 1)
     ∷ case 7 (readUnit (checked (replicate 7 0)) 27) (drm.Refused 1)
