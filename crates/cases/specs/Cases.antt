@@ -28,7 +28,6 @@ use Rattle.drm.specs.declared.DataUnit.{DataUnit}
 use Rattle.drm.specs.declared.Reading.the-variants as drm
 use Rattle.drm.specs.Read.{readUnit}
 use Rattle.crc.specs.Block.{checked}
-use Rattle.clock.specs.declared.Expiry.{Expiry}
 use Rattle.clock.specs.declared.Expiry.the-variants.{At}
 use Rattle.clock.specs.Expiry.{expiryAnswer}
 use Rattle.cases.specs.Case.{Case, case, rule}

@@ -24,8 +24,8 @@ askedFit r s lto = reportFits r && (serviceFits s && offsetFits lto)
 abbrev pub minuteUnfit : ℕ → ℕ → Bool
 minuteUnfit last minute = ltb minute last || ltb largest minute
 
--- the refusal by minute, code of the location and kind, in this order; 0 where there is none. The code is an FLT code of a single-group
--- report at one, and of an INTER-ROAD report whose real location is 0xFC00 or above
+-- the refusal by minute, code of the location and kind, in this order; 0 where there is none. 12 is for an FLT code: on a single-group report,
+-- or as the real location of an INTER-ROAD one
 unfoldable pub laterRefusal : (last minute code kind : ℕ) → ℕ
 laterRefusal last minute code kind = cond (minuteUnfit last minute) 13 (cond (isFlt code) 12 (cond (eqb kind 0) 11 0))
 

@@ -1,6 +1,5 @@
 -- The refusals that the answers tell, in the numbers of document 01: reading content gives 1, 7 or 8, packing items 9.
 use Prim.Native.Nat.{ℕ, zero, suc}
-use native.Mathlib.Omega.{arith}
 use mathlib.Core.Path.{_≡_, refl, sym, ap, _∙_}
 use mathlib.Core.Logic.{_⊎_, inl, inr}
 use mathlib.Core.Bool.{Bool, true, false, cond, _&&_}

@@ -1,11 +1,10 @@
 -- A report that a writer takes is the report of its own fields and items.
-use Prim.Native.Nat.{_^_}
 use native.Mathlib.Omega.{arith}
 use mathlib.Core.Path.{_≡_, sym, ap, _∙_}
 use mathlib.Core.Bool.{true}
 use mathlib.Core.List.{[]}
 use lib.ListN.{length}
-use lib.Dec.{eqb, ltb}
+use lib.Dec.{eqb}
 use borrow.Author.Tests.{eqb-true, ltb-true}
 use Rattle.bits.proofs.Choice.{and-left, and-right}
 use Rattle.content.specs.Packing.{writable}

@@ -3,14 +3,14 @@
 use Prim.Native.Nat.{ℕ, _+_, _≤_, _^_}
 use native.Mathlib.Omega.{arith}
 use mathlib.Core.Path.{_≡_, refl, sym, ap, ap₂, subst, _∙_}
-use mathlib.Core.Bool.{Bool, true, false, _&&_}
+use mathlib.Core.Bool.{Bool, true, _&&_}
 use mathlib.Core.List.{List, _++_}
 use lib.ListN.{length, take, drop, length-append, length-drop, take-append-drop}
 use lib.Seq.{length-take-le}
 use borrow.Author.Tests.{eq-eqb, le-leb, lt-ltb}
 use Rattle.bits.specs.Bits.{bits, val}
 use Rattle.bits.specs.Fields.{fits}
-use Rattle.bits.specs.Outcome.{Outcome, gives, refused, mapped}
+use Rattle.bits.specs.Outcome.{gives, refused, mapped}
 use Rattle.bits.proofs.Choice.{either}
 use Rattle.bits.proofs.Outcomes.{refused-gives-none}
 use Rattle.bits.proofs.Value.{bits-val, val-take-lt}
@@ -21,7 +21,7 @@ use Rattle.content.specs.declared.item.Item.{Item}
 use Rattle.content.specs.Items.{Reading, items}
 use Rattle.content.specs.Content.{contentLength, content}
 use Rattle.content.specs.Packing.{longest, packing, writable, room, padded}
-use Rattle.content.specs.Stored.{filled, listed}
+use Rattle.content.specs.Stored.{filled}
 use Rattle.content.proofs.Lengths.{groups-of}
 use Rattle.content.proofs.Places.{listed-filled, wellPlaced-filled}
 use Rattle.content.proofs.AtMost28.{at-most-28}

@@ -1,7 +1,7 @@
 -- The real location is put before the packed items.
 use Prim.Native.Nat.{ℕ, _+_, _-_}
 use native.Mathlib.Omega.{arith}
-use mathlib.Core.Path.{_≡_, ap, ap₂, _∙_}
+use mathlib.Core.Path.{ap, ap₂, _∙_}
 use mathlib.Core.List.{_++_}
 use lib.ListN.{take}
 use Rattle.bits.specs.Bits.{bits}

@@ -4,7 +4,7 @@ use native.Mathlib.Omega.{arith}
 use mathlib.Core.Path.{_≡_, refl, ap, sym, _∙_}
 use borrow.Author.Needs.{needs}
 use mathlib.Core.List.{List, []}
-use lib.ListN.{length, take, replicate, length-take}
+use lib.ListN.{take, replicate, length-take}
 use Rattle.content.specs.Items.{items}
 use Rattle.content.specs.Content.{content}
 use Rattle.content.specs.Packing.{longest}

@@ -1,6 +1,5 @@
 -- The fields by division.
-use mathlib.Core.Path.{sym, ap}
-use mathlib.Core.List.{List}
+use mathlib.Core.Path.{sym}
 use Rattle.location.specs.Flt.{foreign}
 use Rattle.location.proofs.Codes.{country-is, ltn-is}
 use borrow.Author.Needs.{needs}

@@ -1,11 +1,10 @@
 -- The packer tests the items and tells their bits.
 use Prim.Native.Nat.{ℕ, _+_}
 use native.Mathlib.Omega.{arith}
-use mathlib.Core.Path.{_≡_, sym, ap, ap₂, _∙_}
+use mathlib.Core.Path.{sym, ap, ap₂, _∙_}
 use mathlib.Core.Bool.{Bool, _&&_}
 use lib.Dec.{leb}
 use Rattle.content.specs.Packing.{longest}
-use Rattle.report.specs.InterRoad.{itemsAt}
 use Rattle.report.specs.Fits.{contentFits}
 use Rattle.report.proofs.Places.{place-small, length-content}
 use Rattle.report.proofs.Tests.{packed-fits, packed-bits, packed-short, refused-unfit}
