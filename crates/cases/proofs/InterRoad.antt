@@ -13,4 +13,4 @@ use Rattle.cases.specs.InterRoad.{interRoadCases}
 
 pub inter-road : AllHold interRoadCases
 unfolding computing words pack itemBits packing itemFits allFit zeroItem lastZero packable writable padded filled listed allZeroItems wellPlaced realBits contentOf singleFits agrees itemsFit contentFits multiFits fitsBy realFits reportFits reportThen reportsOf after indexFits canWrite singleWords contentsOf tailWord tailWords laterWords multiWords wordsBy wordsOf answerFor writeReport interRoadCases
-inter-road = (refl, (refl, (refl, (refl, (refl, (refl, (refl, (refl, (refl, (refl, (refl, (refl, (refl, (refl, (refl, (refl, tt))))))))))))))))
+inter-road = (refl, (refl, (refl, (refl, (refl, (refl, (refl, (refl, (refl, (refl, (refl, (refl, (refl, (refl, (refl, (refl, (refl, tt)))))))))))))))))

@@ -1,7 +1,7 @@
 -- Computed cases of INTER-ROAD messages (ISO 14819-1, clause 6.7.2; document 02, R-1): read, written, and refused. The codes are those of the
 -- tables 13/1 (0xFF41) and 15/61 (0xFFFD).
 use Prim.Native.Nat.{ℕ}
-use mathlib.Core.List.{List, [], _∷_}
+use mathlib.Core.List.{List, [], _∷_, map}
 use lib.ListN.{replicate}
 use Rattle.bits.specs.declared.Writing.the-variants as writing
 use Rattle.word.specs.declared.Head.{Head}
@@ -13,6 +13,8 @@ use Rattle.report.specs.declared.Form.the-variants.{Single}
 use Rattle.report.specs.Report.{singleReport, multiReport}
 use Rattle.report.specs.Read.{readReport}
 use Rattle.assembler.specs.declared.Assembler.the-variants.{Empty}
+use Rattle.assembler.specs.declared.Answer.{Answer}
+use Rattle.assembler.specs.declared.Answer.the-variants.{Nothing, Refused}
 use Rattle.assembler.specs.Calls.{calls, reportsOf, after}
 use Rattle.report_write.specs.Write.{wordsOf, writeReport}
 use Rattle.cases.specs.Case.{Case, case}
@@ -35,13 +37,20 @@ first = 0x028991FF41
 abbrev foreign : ℕ → List Item → Report
 foreign real its = multiReport (headAt 0xFF41) real its
 
+-- a single-group report at an FLT code
+abbrev singleForeign : Report
+singleForeign = singleReport 3 0 (record { direction = 1; extent = 2; event = 101; location = 0xFF41 })
+
 -- a single-group report with a real location
 abbrev misplaced : Report
 misplaced = record { form = Single; head = head101; real = 1; diversion = 0; duration = 3; items = filled [] }
 
--- what a fresh assembler gives for words
+-- the reports that a fresh assembler gives for words, and its answers
 abbrev heard : List ℕ → List Report
 heard words = reportsOf (calls readReport Empty words)
+
+abbrev answers : List ℕ → List Answer
+answers words = map (λ s. s .answer) (calls readReport Empty words)
 
 unfoldable pub interRoadCases : List Case
 interRoadCases =
@@ -55,9 +64,10 @@ interRoadCases =
     ∷ case 5 (writeReport 2 (multiReport (headAt 500) 0 (separators 25)) 5) (writing.Written 5)
     ∷ case 6 (heard (first ∷ 0x024FC00000 ∷ [])) (foreign 0xFC00 [] ∷ [])
     ∷ case 6 (wordsOf 2 (foreign 0xFC00 [])) (first ∷ 0x024FC00000 ∷ [])
-    ∷ case 7 (heard (0x0B5065FF41 ∷ [])) (singleReport 3 0 (record { direction = 1; extent = 2; event = 101; location = 0xFF41 }) ∷ [])
+    ∷ case 7 (heard (0x0B5065FF41 ∷ [])) (singleForeign ∷ [])
+    ∷ case 7 (wordsOf 0 singleForeign) (0x0B5065FF41 ∷ [])
     ∷ case 8 (heard (0x028991FFFD ∷ 0x0243502000 ∷ [])) (multiReport (headAt 0xFFFD) 0x3502 [] ∷ [])
-    ∷ case 9 (heard (first ∷ 0x02401F4AFF ∷ [])) []
+    ∷ case 9 (answers (first ∷ 0x02401F4AFF ∷ [])) (Nothing ∷ Refused 7 ∷ [])
     ∷ case 9 (after readReport Empty (first ∷ 0x02401F4AFF ∷ [])) Empty
     ∷ case 10 (writeReport 2 (multiReport (headAt 500) 1 []) 5) (writing.Refused 9)
     ∷ case 10 (writeReport 0 misplaced 5) (writing.Refused 9)
