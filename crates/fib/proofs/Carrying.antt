@@ -90,7 +90,7 @@ taken-length : (fig : Fig) (n : ℕ) (f : List ℕ) (cs : List Carried) → carr
 unfolding carried
 taken-length fig n f cs e = let k : carriedBy fig (ws fig n f) ≡ cs = cc in sym (ap length k) ∙ length-carried fig (ws fig n f) ∙ length-ws fig n f
 
-refused-unread : (n : ℕ) (f : List ℕ) (cs : List Carried) → carried (Refused n) f ≡ gives cs → ⊥
+pub refused-unread : (n : ℕ) (f : List ℕ) (cs : List Carried) → carried (Refused n) f ≡ gives cs → ⊥
 unfolding carried
 refused-unread n f cs e = refused-gives-none e
 

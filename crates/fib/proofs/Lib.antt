@@ -4,3 +4,6 @@ pub mod Structure
 pub mod Carrying
 pub mod Walking
 pub mod Blocks
+pub mod Alone
+pub mod Passing
+pub mod Each

@@ -82,11 +82,11 @@ module _ (s : List ℕ) (at room : ℕ) where
 
 -- the numbers of words that follow others stand in the cells that follow
 module _ (number : Carried → ℕ) where
-  length-numbers : (cs : List Carried) → length (map number cs) ≡ length cs
+  pub length-numbers : (cs : List Carried) → length (map number cs) ≡ length cs
   length-numbers [] = refl
   length-numbers (c ∷ cs) = ap suc (length-numbers cs)
 
-  numbers-append : (cs ds : List Carried) → map number (cs ++ ds) ≡ map number cs ++ map number ds
+  pub numbers-append : (cs ds : List Carried) → map number (cs ++ ds) ≡ map number cs ++ map number ds
   numbers-append [] ds = refl
   numbers-append (c ∷ cs) ds = ap (λ (l : List ℕ). number c ∷ l) (numbers-append cs ds)
 

@@ -1,5 +1,5 @@
 -- What the reader answers, by the refusals of its two parts.
-use Prim.Native.Nat.{ℕ, zero, suc, _-_, _≤_, _<_}
+use Prim.Native.Nat.{ℕ, zero, suc, _+_, _-_, _*_, _≤_, _<_}
 use native.Mathlib.Omega.{arith}
 use mathlib.Core.Path.{_≡_, refl, sym, ap, subst, _∙_}
 use mathlib.Core.List.{List, _++_}
@@ -14,7 +14,8 @@ use Rattle.fig.specs.declared.Reading.{Reading}
 use Rattle.fig.specs.declared.Reading.the-variants.{Taken, Refused}
 use Rattle.fig.specs.Format.{wordWidth}
 use Rattle.fig.specs.Read.{fields, figOf, countOf, headRefusal, dataRefusal, readData, readFig, wordsAfter}
-use Rattle.fig.proofs.Data.{room as data-room}
+use Rattle.fig.proofs.Header.{length-fits}
+use Rattle.fig.proofs.Data.{room as data-room, any-room, two-bytes}
 
 -- w is the width that the code has found
 module _ (fig : Fig) (bytes out : List ℕ) (w : ℕ) (e : w ≡ wordWidth (fig .d1)) where
@@ -65,6 +66,20 @@ module _ (s : List ℕ) (room n : ℕ) (fig : Fig) (e : readFig s room ≡ Taken
 
   pub taken-room : n ≤ room
   taken-room = omega (arith, taken-count, data-room width (drop 2 s) room (data-parts .0))
+
+  -- it is read in the same way with any other room for its words
+  pub taken-anywhere : (room′ : ℕ) → n ≤ room′ → readFig s room′ ≡ Taken fig n
+  unfolding readFig readData
+  taken-anywhere room′ h =
+      none Refused (headRefusal s) _ (parts-taken .0)
+      ∙ none Refused (dataRefusal width (drop 2 s) room′) _ (any-room width (drop 2 s) room room′ (data-parts .0) (omega (arith, taken-count)))
+      ∙ data-parts .1
+
+  -- a word takes two bytes or more, after the header
+  pub taken-length : (n * 2 + 2 ≤ length s) × (length s ≤ 30)
+  taken-length =
+      let h = length-fits s (parts-taken .0) in
+      (omega (arith, h .0, taken-count, two-bytes (figOf (fields s) .d1) (drop 2 s), length-drop 2 s), h .1)
 
   -- D1 is one bit, and TCId three
   pub taken-ranges : (fig .d1 < 2) × (fig .tcid < 8)

@@ -1,18 +1,19 @@
 -- The words and the padding of some data bytes.
 use Prim.Native.Nat.{ℕ, _+_, _*_, _%_, _≤_}
-use native.Mathlib.Nat.{div-add-mod'}
+use native.Mathlib.Nat.{div-add-mod', mul-le-mul-left}
 use native.Mathlib.Omega.{arith}
-use mathlib.Core.Path.{_≡_, sym, ap}
+use mathlib.Core.Path.{_≡_, sym, ap, _∙_}
 use mathlib.Core.Bool.{Bool, true, false, cond}
 use mathlib.Core.List.{List}
 use lib.ListN.{length, length-drop}
 use lib.Seq.{take-all}
 use lib.Dec.{leb, eqb, lit≤}
-use borrow.Author.Tests.{leb-true}
+use borrow.Author.Tests.{leb-true, le-leb}
 use Rattle.bits.specs.Bits.{allZero}
 use Rattle.bits.specs.Fields.{flat}
 use Rattle.bits.specs.Overlay.{stretch}
 use Rattle.bits.specs.Checks.{must}
+use Rattle.bits.proofs.Choice.{chosen}
 use Rattle.bits.proofs.Fields.{length-flat}
 use Rattle.fig.specs.Format.{wordWidth}
 use Rattle.fig.specs.Read.{countOf, padding, lengthFits, dataRefusal}
@@ -44,6 +45,13 @@ pub room : (w : ℕ) (bytes : List ℕ) (n : ℕ) → dataRefusal w bytes n ≡ 
 unfolding dataRefusal
 room w bytes n e = leb-true (countOf w bytes) n (three (lengthFits w (length bytes)) (allZero (padding w bytes)) (leb (countOf w bytes) n) e .2)
 
+-- and is not refused with any other room for its words
+pub any-room : (w : ℕ) (bytes : List ℕ) (n m : ℕ) → dataRefusal w bytes n ≡ 0 → countOf w bytes ≤ m → dataRefusal w bytes m ≡ 0
+unfolding dataRefusal
+any-room w bytes n m e h =
+    let t = three (lengthFits w (length bytes)) (allZero (padding w bytes)) (leb (countOf w bytes) n) e in
+    chosen _ _ _ (t .0) ∙ chosen _ _ _ (t .1) ∙ chosen _ _ _ (le-leb (countOf w bytes) m h)
+
 -- a word has 16 bits or more, and 37 or fewer
 either : (t : Bool) → (16 ≤ cond t 37 16) × (cond t 37 16 ≤ 37)
 either true = (lit≤ tt, lit≤ tt)
@@ -52,3 +60,9 @@ either false = (lit≤ tt, lit≤ tt)
 pub width-bounds : (d1 : ℕ) → (16 ≤ wordWidth d1) × (wordWidth d1 ≤ 37)
 unfolding wordWidth
 width-bounds d1 = either (eqb d1 0)
+
+-- a word takes two bytes or more
+pub two-bytes : (d1 : ℕ) (bytes : List ℕ) → countOf (wordWidth d1) bytes * 2 ≤ length bytes
+two-bytes d1 bytes =
+    let w = wordWidth d1 in
+    omega (arith, mul-le-mul-left (countOf w bytes) (width-bounds d1 .0), all-bits w bytes)
