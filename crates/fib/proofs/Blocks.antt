@@ -2,16 +2,14 @@
 use Prim.Native.Nat.{ℕ, _-_}
 use native.Mathlib.Nat.{zero-add}
 use mathlib.Core.Path.{_≡_, sym, ap, _∙_}
-use mathlib.Core.Bool.{cond}
 use mathlib.Core.List.{List, []}
 use lib.ListN.{length, take}
 use lib.Dec.{eqb}
 use borrow.Author.Tests.{eqb-true, eq-eqb, ne-eqb}
-use Rattle.bits.specs.Checks.{must, unless}
+use Rattle.bits.specs.Checks.{must}
 use Rattle.bits.proofs.Choice.{chosen, passed-over}
 use Rattle.bits.proofs.Checks.{passed, none, refused}
 use Rattle.crc.specs.Block.{payload, isChecked}
-use Rattle.fib.specs.declared.Reading.{Reading}
 use Rattle.fib.specs.declared.Reading.the-variants.{Refused}
 use Rattle.fib.specs.Figs.{ended, rest}
 use Rattle.fib.specs.Walk.{Carried}
@@ -43,6 +41,9 @@ module _ (s : List ℕ) (room : ℕ) where
     unfolding readBlock
     block-refused = refused Refused (blockRefusal s) _ e
 
-    pub cells-kept : (number : Carried → ℕ) (out : List ℕ) → cellsAfter number (readWords s room) out ≡ out
+    pub no-words : readWords s room ≡ []
     unfolding readWords
-    cells-kept number out = ap (λ (cs : List Carried). cellsAfter number cs out) (passed-over _ _ _ (ne-eqb (blockRefusal s) 0 e)) ∙ cells-none number out
+    no-words = passed-over _ _ _ (ne-eqb (blockRefusal s) 0 e)
+
+    pub cells-kept : (number : Carried → ℕ) (out : List ℕ) → cellsAfter number (readWords s room) out ≡ out
+    cells-kept number out = ap (λ (cs : List Carried). cellsAfter number cs out) no-words ∙ cells-none number out

@@ -4,6 +4,10 @@ pub mod Structure
 pub mod Carrying
 pub mod Walking
 pub mod Blocks
+pub mod Within
+pub mod Answers
 pub mod Alone
 pub mod Passing
 pub mod Each
+pub mod Refusals
+pub mod Most

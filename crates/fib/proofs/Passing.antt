@@ -17,11 +17,11 @@ use Rattle.fib.proofs.Carrying.{one-fits}
 use Rattle.fib.proofs.Alone.{read-tmc, read-other, read-refused}
 
 -- a FIG 5/1 is among the FIGs 5/1, and any other is not
-tmcs-more : (f : List ℕ) (fs : List (List ℕ)) → isTmc f ≡ true → tmcs (f ∷ fs) ≡ f ∷ tmcs fs
+pub tmcs-more : (f : List ℕ) (fs : List (List ℕ)) → isTmc f ≡ true → tmcs (f ∷ fs) ≡ f ∷ tmcs fs
 unfolding tmcs
 tmcs-more f fs t = chosen _ _ _ t
 
-tmcs-same : (f : List ℕ) (fs : List (List ℕ)) → isTmc f ≡ false → tmcs (f ∷ fs) ≡ tmcs fs
+pub tmcs-same : (f : List ℕ) (fs : List (List ℕ)) → isTmc f ≡ false → tmcs (f ∷ fs) ≡ tmcs fs
 unfolding tmcs
 tmcs-same f fs t = passed-over _ _ _ t
 

@@ -5,3 +5,4 @@ pub mod Walk
 pub mod Read
 pub mod Parts
 pub mod Each
+pub mod Answers

@@ -50,7 +50,7 @@ module _ (s : List ℕ) (room n : ℕ) (fig : Fig) (e : readFig s room ≡ Taken
   abbrev width : ℕ
   width = wordWidth (figOf (fields s) .d1)
 
-  parts-taken : (headRefusal s ≡ 0) × (readData (figOf (fields s)) (drop 2 s) room ≡ Taken fig n)
+  pub parts-taken : (headRefusal s ≡ 0) × (readData (figOf (fields s)) (drop 2 s) room ≡ Taken fig n)
   unfolding readFig
   parts-taken = unless-taken (headRefusal s) n fig (readData (figOf (fields s)) (drop 2 s) room) e
 
