@@ -2,3 +2,4 @@ pub mod Case
 pub mod Samples
 pub mod Cases
 pub mod InterRoad
+pub mod Fibs
