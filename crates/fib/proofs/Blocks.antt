@@ -2,16 +2,14 @@
 use Prim.Native.Nat.{ℕ, _-_}
 use native.Mathlib.Nat.{zero-add}
 use mathlib.Core.Path.{_≡_, sym, ap, _∙_}
-use mathlib.Core.Bool.{cond}
-use mathlib.Core.List.{List, []}
+use mathlib.Core.List.{List}
 use lib.ListN.{length, take}
 use lib.Dec.{eqb}
 use borrow.Author.Tests.{eqb-true, eq-eqb, ne-eqb}
-use Rattle.bits.specs.Checks.{must, unless}
+use Rattle.bits.specs.Checks.{must}
 use Rattle.bits.proofs.Choice.{chosen, passed-over}
 use Rattle.bits.proofs.Checks.{passed, none, refused}
 use Rattle.crc.specs.Block.{payload, isChecked}
-use Rattle.fib.specs.declared.Reading.{Reading}
 use Rattle.fib.specs.declared.Reading.the-variants.{Refused}
 use Rattle.fib.specs.Figs.{ended, rest}
 use Rattle.fib.specs.Walk.{Carried}
@@ -28,11 +26,12 @@ module _ (s : List ℕ) (room : ℕ) where
     unfolding blockRefusal
     block-length = eqb-true (length s) 32 (passed (eqb (length s) 32) 0 (must (isChecked s) 4 (must (ended (rest (payload s))) 1 0)) e .0)
 
-    pub block-read : answer 0 (blockWalk s room) ≡ readBlock s room
+    pub block-answer : readBlock s room ≡ ending (length (blockWalk s room .found)) (blockWalk s room .end)
     unfolding readBlock
-    block-read =
-        let w = blockWalk s room in
-        ap (λ (n : ℕ). ending n (w .end)) (zero-add (length (w .found))) ∙ sym (none Refused (blockRefusal s) (ending (length (w .found)) (w .end)) e)
+    block-answer = none Refused (blockRefusal s) _ e
+
+    pub block-read : answer 0 (blockWalk s room) ≡ readBlock s room
+    block-read = ap (λ (n : ℕ). ending n (blockWalk s room .end)) (zero-add (length (blockWalk s room .found))) ∙ sym block-answer
 
     pub block-words : readWords s room ≡ blockWalk s room .found
     unfolding readWords

@@ -1,11 +1,11 @@
 -- What one FIG leaves in the buffers.
-use Prim.Native.Nat.{ℕ, zero, suc, _≤_}
+use Prim.Native.Nat.{ℕ, suc, _≤_}
 use native.Mathlib.Omega.{arith}
-use mathlib.Core.Path.{_≡_, refl, sym, ap, ap₂, _∙_}
+use mathlib.Core.Path.{_≡_, refl, sym, ap, _∙_}
 use mathlib.Core.Bool.{true, false}
 use mathlib.Core.List.{List, [], _∷_, _++_, map, append-assoc}
-use lib.ListN.{length, take, drop, replicate, length-append, take-append-drop}
-use lib.Seq.{drop-append-le, length-take-le, drop-length}
+use lib.ListN.{length, take, drop, replicate, take-append-drop}
+use lib.Seq.{drop-append-le, length-take-le}
 use Rattle.bits.specs.Fields.{flat}
 use Rattle.bits.specs.Outcome.{Outcome, gives}
 use Rattle.bits.proofs.Choice.{either, chosen, passed-over}

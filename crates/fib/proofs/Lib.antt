@@ -4,3 +4,4 @@ pub mod Structure
 pub mod Carrying
 pub mod Walking
 pub mod Blocks
+pub mod TakenFigs

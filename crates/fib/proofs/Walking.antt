@@ -1,6 +1,5 @@
 -- One step of a walk: no FIG is left, the first gives words and the walk goes on, or it is refused.
-use Prim.Native.Nat.{ℕ, zero, suc, _+_, _-_, _≤_}
-use native.Mathlib.Nat.{add-zero}
+use Prim.Native.Nat.{ℕ, suc, _+_, _-_, _≤_}
 use native.Mathlib.Omega.{arith}
 use mathlib.Core.Path.{_≡_, refl, sym, ap, ap₂, _∙_}
 use mathlib.Core.List.{List, [], _∷_, _++_, map, append-assoc, append-nil}
@@ -8,12 +7,10 @@ use lib.ListN.{length, take, drop, length-append, length-drop, drop-of-length-le
 use lib.Seq.{length-take-le, take-at, drop-at, drop-drop, take-all}
 use borrow.Rule.Slice.PartMut.{putMid}
 use Rattle.bits.specs.Outcome.{Outcome, gives, refused}
-use Rattle.fib.specs.declared.Fib.{Fib}
 use Rattle.fib.specs.declared.Reading.{Reading}
-use Rattle.fib.specs.declared.Reading.the-variants.{Taken, Stopped}
 use Rattle.fib.specs.declared.read.Part.the-variants as part
 use Rattle.fib.specs.Figs.{firstLength, figs}
-use Rattle.fib.specs.Walk.{Carried, readOne, End, all, refusedAt, Walk, andThen, walkFrom}
+use Rattle.fib.specs.Walk.{Carried, readOne, all, refusedAt, Walk, andThen, walkFrom}
 use Rattle.fib.specs.Read.{ending, roomIn, cellsAfter}
 use Rattle.fib.specs.Parts.{partOf, given}
 use Rattle.fib.proofs.Header.{first-fits}
@@ -86,7 +83,7 @@ module _ (number : Carried → ℕ) where
   length-numbers [] = refl
   length-numbers (c ∷ cs) = ap suc (length-numbers cs)
 
-  numbers-append : (cs ds : List Carried) → map number (cs ++ ds) ≡ map number cs ++ map number ds
+  pub numbers-append : (cs ds : List Carried) → map number (cs ++ ds) ≡ map number cs ++ map number ds
   numbers-append [] ds = refl
   numbers-append (c ∷ cs) ds = ap (λ (l : List ℕ). number c ∷ l) (numbers-append cs ds)
 

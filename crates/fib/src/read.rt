@@ -1,6 +1,6 @@
 // A block read: the checks of the whole block, and then its FIGs in order.
 ghost use mathlib.Core.Path.{_≡_};
-ghost use Prim.Native.Nat.{_+_, _≤_, _<_, _^_, min};
+ghost use Prim.Native.Nat.{_+_, _<_, _^_, min};
 ghost use lib.ListN.{length, replicate};
 ghost use Rattle.fig.specs.Read.{readFig};
 ghost use Rattle.fib.specs.Figs.{ended, figs, rest};

@@ -1,7 +1,7 @@
 -- FIGs packed into a block in a lent buffer (document 02, R-2; EN 300 401, 5.2.1).
 use Prim.Native.Nat.{ℕ}
 use mathlib.Core.Bool.{Bool, _&&_, cond}
-use mathlib.Core.List.{List, [], _∷_, _++_}
+use mathlib.Core.List.{List, _∷_, _++_}
 use lib.ListN.{length, take, drop, replicate}
 use lib.Dec.{leb, eqb}
 use Rattle.bits.specs.Lists.{joined}

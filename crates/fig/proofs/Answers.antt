@@ -57,6 +57,9 @@ module _ (s : List ℕ) (room n : ℕ) (fig : Fig) (e : readFig s room ≡ Taken
   unfolding readData
   data-parts = unless-taken (dataRefusal width (drop 2 s) room) n fig (Taken (figOf (fields s)) (countOf width (drop 2 s))) (parts-taken .1)
 
+  pub taken-head : headRefusal s ≡ 0
+  taken-head = parts-taken .0
+
   pub taken-fig : fig ≡ figOf (fields s)
   taken-fig = let h = data-parts .1 in cc
 

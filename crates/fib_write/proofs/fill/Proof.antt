@@ -4,7 +4,7 @@ use native.Mathlib.Omega.{arith}
 use mathlib.Core.Path.{_≡_, sym, ap, _∙_}
 use lib.ListN.{length, take, drop}
 use lib.Seq.{length-take-le}
-use mathlib.Core.List.{List, _++_}
+use mathlib.Core.List.{_++_}
 use borrow.Author.Needs.{needs}
 use Rattle.crc.specs.Block.{withCheck, checked}
 use Rattle.crc.proofs.Blocks.{check-behind}

@@ -4,8 +4,8 @@ use native.Mathlib.Nat.{zero-add}
 use native.Mathlib.Numerals.{add-one}
 use native.Mathlib.Omega.{arith}
 use mathlib.Core.Path.{_≡_, refl, sym, ap, ap₂, _∙_}
-use mathlib.Core.List.{List, [], _++_, append-nil}
-use lib.ListN.{length, take, drop, set, getD, length-set, drop-of-length-le}
+use mathlib.Core.List.{List, _++_, append-nil}
+use lib.ListN.{length, take, set, getD, length-set, drop-of-length-le}
 use lib.Seq.{paste, paste-zero, paste-suc}
 use Rattle.fib_write.specs.Write.{fillUp, dataField}
 use Rattle.fib_write.proofs.Filling.{length-full}

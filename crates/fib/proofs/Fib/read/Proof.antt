@@ -1,15 +1,13 @@
 -- The checks of the block, and then the walk over its FIGs.
-use Prim.Native.Nat.{ℕ, _≤_, _<_}
+use Prim.Native.Nat.{ℕ, _≤_}
 use native.Mathlib.Omega.{arith}
 use mathlib.Core.Path.{_≡_, sym, ap, ap₂, _∙_}
 use mathlib.Core.List.{List}
 use lib.ListN.{length, take}
 use lib.Seq.{length-take-le}
 use borrow.Author.Needs.{needs}
-use Rattle.crc.specs.Block.{payload}
 use Rattle.fib.specs.declared.Fib.{Fib}
 use Rattle.fib.specs.declared.Reading.the-variants.{Refused}
-use Rattle.fib.specs.Format.{unread}
 use Rattle.fib.specs.Walk.{Carried, Walk}
 use Rattle.fib.specs.Read.{blockRefusal, blockWalk, roomIn, originOf, cellsAfter}
 use Rattle.fib.proofs.Walking.{answer, over}
