@@ -4,3 +4,4 @@ pub mod Overlay
 pub mod Checks
 pub mod Outcome
 pub mod Writers
+pub mod Lists

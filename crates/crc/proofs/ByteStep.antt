@@ -20,7 +20,7 @@ use Rattle.crc.specs.Register.{shifted, entered}
 use Rattle.crc.proofs.Linear.{entered-append, entered-low, entered-high}
 
 -- a test passes below n
-every : (ℕ → Bool) → ℕ → Bool
+unfoldable pub every : (ℕ → Bool) → ℕ → Bool
 every p zero = true
 every p (suc n) = p n && every p n
 
@@ -65,9 +65,13 @@ byte-step c b h =
     ∙ ap (λ (x : ℕ). entered x (replicate 8 false)) (added c b)
     ∙ entered-low (replicate 8 false) (bitXor (c / 256) b * 256) (c % 256) low)
 
+-- more bytes
+pub bytes-more : (p q : List ℕ) (r : ℕ) → entered r (flat 8 (p ++ q)) ≡ entered (entered r (flat 8 p)) (flat 8 q)
+bytes-more p q r = ap (entered r) (flat-append 8 p q) ∙ entered-append (flat 8 p) (flat 8 q) r
+
 -- one byte more
 pub byte-more : (s : List ℕ) (i r : ℕ) → i < length s → entered (entered r (flat 8 (take i s))) (bits 8 (getD s i 0)) ≡ entered r (flat 8 (take (suc i) s))
 byte-more s i r h =
     sym (ap (λ (l : List ℕ). entered r (flat 8 l)) (take-suc s i 0 h)
-    ∙ ap (entered r) (flat-append 8 (take i s) (getD s i 0 ∷ []) ∙ ap (λ (l : List Bool). flat 8 (take i s) ++ l) (flat-one 8 (getD s i 0)))
-    ∙ entered-append (flat 8 (take i s)) (bits 8 (getD s i 0)) r)
+    ∙ bytes-more (take i s) (getD s i 0 ∷ []) r
+    ∙ ap (entered (entered r (flat 8 (take i s)))) (flat-one 8 (getD s i 0)))

@@ -23,7 +23,7 @@ shifted-lt r b h =
     let taps : bitXor (r / 2 ^ 15) (num b) * 4129 < 2 ^ 16 = omega (arith, tap) in
     xor-lt 16 (r % 2 ^ 15 * 2) (bitXor (r / 2 ^ 15) (num b) * 4129) low taps
 
-entered-lt : (l : List Bool) (r : ℕ) → r < 2 ^ 16 → entered r l < 2 ^ 16
+pub entered-lt : (l : List Bool) (r : ℕ) → r < 2 ^ 16 → entered r l < 2 ^ 16
 unfolding entered
 entered-lt [] r h = h
 entered-lt (b ∷ l) r h = entered-lt l (shifted r b) (shifted-lt r b h)

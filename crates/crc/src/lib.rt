@@ -1,19 +1,21 @@
-// The check word over whole bytes, a byte at a time, and blocks that end with it.
+// The check word over whole bytes, eight at a time and then one at a time, and blocks that end with it.
 ghost use mathlib.Core.Path.{_≡_};
 ghost use mathlib.Core.Bool.{false};
 ghost use Prim.Native.Nat.{_*_, _<_};
 ghost use lib.ListN.{replicate};
 ghost use Rattle.bits.specs.Bits.{bits};
 ghost use Rattle.crc.specs.Register.{entered, checkWord};
+use eight::with_eights;
 
 pub mod block;
+mod eight;
 
 // The check word of some bytes, the highest bit of each first.
 pub fn check_word(s: &[u8]) -> u16
     ensures { λ r. ⌜ r ≡ checkWord (now (s .entry)) ⌝ }
 {
-    let mut register = 0xFFFFu16;
-    let mut i = 0;
+    let mut i = s.len() / 8 * 8;
+    let mut register = with_eights(0xFFFF, &s[..i]);
     while i < s.len() {
         register = with_byte(register, s[i]);
         i += 1;

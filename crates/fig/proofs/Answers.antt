@@ -1,17 +1,20 @@
 -- What the reader answers, by the refusals of its two parts.
-use Prim.Native.Nat.{ℕ, _-_}
+use Prim.Native.Nat.{ℕ, zero, suc, _-_, _≤_, _<_}
 use native.Mathlib.Omega.{arith}
-use mathlib.Core.Path.{_≡_, sym, ap, _∙_}
+use mathlib.Core.Path.{_≡_, refl, sym, ap, subst, _∙_}
 use mathlib.Core.List.{List, _++_}
 use lib.ListN.{length, take, drop, length-drop}
 use lib.Seq.{take-all}
-use Rattle.bits.specs.Fields.{flat, words}
+use Rattle.bits.specs.Fields.{flat, words, unpack}
 use Rattle.bits.specs.Checks.{unless}
 use Rattle.bits.proofs.Checks.{none, refused}
+use Rattle.bits.proofs.Value.{val-take-lt}
 use Rattle.fig.specs.declared.Fig.{Fig}
+use Rattle.fig.specs.declared.Reading.{Reading}
 use Rattle.fig.specs.declared.Reading.the-variants.{Taken, Refused}
 use Rattle.fig.specs.Format.{wordWidth}
-use Rattle.fig.specs.Read.{countOf, dataRefusal, readData, wordsAfter}
+use Rattle.fig.specs.Read.{fields, figOf, countOf, headRefusal, dataRefusal, readData, readFig, wordsAfter}
+use Rattle.fig.proofs.Data.{room as data-room}
 
 -- w is the width that the code has found
 module _ (fig : Fig) (bytes out : List ℕ) (w : ℕ) (e : w ≡ wordWidth (fig .d1)) where
@@ -34,3 +37,38 @@ module _ (fig : Fig) (bytes out : List ℕ) (w : ℕ) (e : w ≡ wordWidth (fig 
 -- the part of a FIG that the code lends on is the data
 pub data-part : (s : List ℕ) → take (length s - 2) (drop 2 s) ≡ drop 2 s
 data-part s = take-all (length s - 2) (drop 2 s) (omega (arith, length-drop 2 s))
+
+-- an answer that is no refusal
+unless-taken : (m n : ℕ) (fig : Fig) (r : Reading) → unless Refused m r ≡ Taken fig n → (m ≡ 0) × (r ≡ Taken fig n)
+unfolding unless
+unless-taken zero n fig r e = (refl, e)
+unless-taken (suc m) n fig r e = let z : _≡_ {A = ℕ} 0 1 = cc in absurd (omega arith)
+
+-- a FIG that is read: its header and its data pass, and it says what its fields say
+module _ (s : List ℕ) (room n : ℕ) (fig : Fig) (e : readFig s room ≡ Taken fig n) where
+  abbrev width : ℕ
+  width = wordWidth (figOf (fields s) .d1)
+
+  parts-taken : (headRefusal s ≡ 0) × (readData (figOf (fields s)) (drop 2 s) room ≡ Taken fig n)
+  unfolding readFig
+  parts-taken = unless-taken (headRefusal s) n fig (readData (figOf (fields s)) (drop 2 s) room) e
+
+  data-parts : (dataRefusal width (drop 2 s) room ≡ 0) × (Taken (figOf (fields s)) (countOf width (drop 2 s)) ≡ Taken fig n)
+  unfolding readData
+  data-parts = unless-taken (dataRefusal width (drop 2 s) room) n fig (Taken (figOf (fields s)) (countOf width (drop 2 s))) (parts-taken .1)
+
+  pub taken-fig : fig ≡ figOf (fields s)
+  taken-fig = let h = data-parts .1 in cc
+
+  pub taken-count : n ≡ countOf width (drop 2 s)
+  taken-count = let h = data-parts .1 in cc
+
+  pub taken-room : n ≤ room
+  taken-room = omega (arith, taken-count, data-room width (drop 2 s) room (data-parts .0))
+
+  -- D1 is one bit, and TCId three
+  pub taken-ranges : (fig .d1 < 2) × (fig .tcid < 8)
+  unfolding unpack
+  taken-ranges =
+      let l = drop 5 (drop 3 (flat 8 (take 2 s))) in
+      subst (λ (f : Fig). (f .d1 < 2) × (f .tcid < 8)) (sym taken-fig) (val-take-lt 1 l, val-take-lt 3 (drop 1 (drop 1 l)))

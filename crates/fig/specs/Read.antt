@@ -1,7 +1,7 @@
 -- What some bytes say as a FIG 5/1 (document 01, "FIG 5/1"; source 000, clause 5).
 use Prim.Native.Nat.{ℕ, _-_, _*_, _/_, _%_}
 use mathlib.Core.Bool.{Bool, _&&_}
-use mathlib.Core.List.{List, _++_}
+use mathlib.Core.List.{List, [], _++_}
 use lib.ListN.{length, take, drop}
 use lib.Dec.{leb, eqb}
 use Rattle.bits.specs.Bits.{allZero}
@@ -61,11 +61,6 @@ readData fig bytes room = unless Refused (dataRefusal (wordWidth (fig .d1)) byte
 unfoldable pub readFig : List ℕ → ℕ → Reading
 readFig s room = unless Refused (headRefusal s) (readData (figOf (fields s)) (drop headerLength s) room)
 
--- the buffer afterwards: the first cells hold the words and later cells stay; a refusal leaves it
-unfoldable pub wordsAfter : Reading → List ℕ → List ℕ → List ℕ
-wordsAfter (Taken fig n) bytes out = words (wordWidth (fig .d1)) n (flat 8 bytes) ++ drop n out
-wordsAfter (Refused n) bytes out = out
-
 -- what the answer tells: D1 and TCId and the number of words, all 0 on a refusal, and the refusal's number, 0 where there is none
 abbrev pub figIn : Reading → Fig
 figIn (Taken fig n) = fig
@@ -78,3 +73,12 @@ countIn (Refused n) = 0
 abbrev pub refusalIn : Reading → ℕ
 refusalIn (Taken fig n) = 0
 refusalIn (Refused n) = n
+
+-- the words in the data bytes, none on a refusal
+abbrev pub wordsIn : Reading → List ℕ → List ℕ
+wordsIn (Taken fig n) bytes = words (wordWidth (fig .d1)) n (flat 8 bytes)
+wordsIn (Refused n) bytes = []
+
+-- the buffer afterwards: the first cells hold the words and later cells stay; a refusal leaves it
+unfoldable pub wordsAfter : Reading → List ℕ → List ℕ → List ℕ
+wordsAfter r bytes out = wordsIn r bytes ++ drop (countIn r) out

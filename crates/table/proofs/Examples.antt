@@ -4,6 +4,7 @@ use mathlib.Core.Path.{_≡_, refl}
 use mathlib.Core.List.{List, [], _∷_, _++_}
 use lib.IntN.{pos}
 use lib.ListN.{replicate}
+use Rattle.bits.specs.Lists.{joined}
 use Rattle.bits.specs.Bits.{bits, bit, num, val, allZero}
 use Rattle.bits.specs.Fields.{flat, fits, unpack}
 use Rattle.content.specs.Stored.{filled, listed, wellPlaced, allZeroItems}
@@ -27,7 +28,7 @@ use Rattle.lent.specs.Lent.{lentFit}
 use Rattle.checks.specs.declared.Arrival.{Arrival}
 use Rattle.checks.specs.Checks.{askedFit, laterRefusal, checkRefusal}
 use Rattle.table.specs.declared.Answer.the-variants.{Freed, Stored, Refused}
-use Rattle.table.specs.Records.{joined, countIf, firstOf, over, countWhere, lowestFree}
+use Rattle.table.specs.Records.{countIf, firstOf, over, countWhere, lowestFree}
 use Rattle.table.specs.Steps.{step, afterMatching, matchedIn, placeIn}
 use Rattle.table.specs.Expire.{expireRefusal, expireStep, expireTable}
 use Rattle.table.specs.Take.{matches, takeRefusal, takenStep, takeStep}

@@ -6,10 +6,11 @@ use mathlib.Core.List.{List, [], _∷_, _++_, append-assoc}
 use lib.ListN.{length, take, drop, set, length-drop, take-append-drop}
 use lib.Seq.{take-add, drop-drop, take-at, drop-at, length-take-le}
 use borrow.Rule.Slice.PartMut.{putMid, same-len-mid}
+use Rattle.bits.specs.Lists.{joined}
 use Rattle.record.specs.Layout.{recordSize}
 use Rattle.lent.specs.Records.{chunks, records}
 use Rattle.lent.proofs.Passes.{part-is, length-nth}
-use Rattle.table.specs.Records.{joined, stored}
+use Rattle.table.specs.Records.{stored}
 
 pub joined-chunks : (n : ℕ) (t : List ℕ) → length t ≡ n * recordSize → joined (chunks n t) ≡ t
 unfolding joined chunks

@@ -8,11 +8,12 @@ use mathlib.Core.List.{List, [], _∷_, _++_, map, append-nil, append-assoc}
 use lib.ListN.{length, take, drop, length-append, length-drop, drop-of-length-le}
 use lib.Seq.{drop-drop, take-at, drop-at, length-take-le}
 use borrow.Rule.Slice.PartMut.{putMid}
+use Rattle.bits.specs.Lists.{joined}
 use Rattle.bits.specs.Bits.{num}
 use Rattle.record.specs.Layout.{recordSize}
 use Rattle.lent.specs.Records.{chunks, records}
 use Rattle.lent.proofs.Passes.{nth, part-is, length-nth}
-use Rattle.table.specs.Records.{joined, countIf, over, countWhere}
+use Rattle.table.specs.Records.{countIf, over, countWhere}
 use Rattle.table.proofs.Counts.{count-snoc}
 
 -- a function of a record that keeps its length

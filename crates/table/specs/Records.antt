@@ -1,17 +1,13 @@
 -- The records of a table counted, searched and changed (document 01, "The message table").
 use Prim.Native.Nat.{ℕ, suc, _+_}
 use mathlib.Core.Bool.{Bool, cond}
-use mathlib.Core.List.{List, [], _∷_, _++_, map}
+use mathlib.Core.List.{List, [], _∷_, map}
 use lib.ListN.{set}
 use Rattle.bits.specs.Bits.{num}
+use Rattle.bits.specs.Lists.{joined}
 use Rattle.record.specs.Layout.{isFree}
 use Rattle.record.specs.Gone.{freedIf}
 use Rattle.lent.specs.Records.{records}
-
--- the bytes of records
-unfoldable pub joined : List (List ℕ) → List ℕ
-joined [] = []
-joined (r ∷ rs) = r ++ joined rs
 
 -- how many a test holds of
 unfoldable pub countIf : (List ℕ → Bool) → List (List ℕ) → ℕ

@@ -1,0 +1,48 @@
+-- A block that is refused, and one that is not.
+use Prim.Native.Nat.{ℕ, _-_}
+use native.Mathlib.Nat.{zero-add}
+use mathlib.Core.Path.{_≡_, sym, ap, _∙_}
+use mathlib.Core.Bool.{cond}
+use mathlib.Core.List.{List, []}
+use lib.ListN.{length, take}
+use lib.Dec.{eqb}
+use borrow.Author.Tests.{eqb-true, eq-eqb, ne-eqb}
+use Rattle.bits.specs.Checks.{must, unless}
+use Rattle.bits.proofs.Choice.{chosen, passed-over}
+use Rattle.bits.proofs.Checks.{passed, none, refused}
+use Rattle.crc.specs.Block.{payload, isChecked}
+use Rattle.fib.specs.declared.Reading.{Reading}
+use Rattle.fib.specs.declared.Reading.the-variants.{Refused}
+use Rattle.fib.specs.Figs.{ended, rest}
+use Rattle.fib.specs.Walk.{Carried}
+use Rattle.fib.specs.Read.{blockRefusal, blockWalk, ending, readBlock, readWords, cellsAfter}
+use Rattle.fib.proofs.Walking.{answer, cells-none}
+
+-- the bytes before the check word
+pub data-field : (s : List ℕ) → length s ≡ 32 → take 30 s ≡ payload s
+data-field s e = ap (λ (n : ℕ). take (n - 2) s) (sym e)
+
+module _ (s : List ℕ) (room : ℕ) where
+  module _ (e : blockRefusal s ≡ 0) where
+    pub block-length : length s ≡ 32
+    unfolding blockRefusal
+    block-length = eqb-true (length s) 32 (passed (eqb (length s) 32) 0 (must (isChecked s) 4 (must (ended (rest (payload s))) 1 0)) e .0)
+
+    pub block-read : answer 0 (blockWalk s room) ≡ readBlock s room
+    unfolding readBlock
+    block-read =
+        let w = blockWalk s room in
+        ap (λ (n : ℕ). ending n (w .end)) (zero-add (length (w .found))) ∙ sym (none Refused (blockRefusal s) (ending (length (w .found)) (w .end)) e)
+
+    pub block-words : readWords s room ≡ blockWalk s room .found
+    unfolding readWords
+    block-words = chosen _ _ _ (eq-eqb (blockRefusal s) 0 e)
+
+  module _ (e : blockRefusal s ≡ 0 → ⊥) where
+    pub block-refused : readBlock s room ≡ Refused (blockRefusal s)
+    unfolding readBlock
+    block-refused = refused Refused (blockRefusal s) _ e
+
+    pub cells-kept : (number : Carried → ℕ) (out : List ℕ) → cellsAfter number (readWords s room) out ≡ out
+    unfolding readWords
+    cells-kept number out = ap (λ (cs : List Carried). cellsAfter number cs out) (passed-over _ _ _ (ne-eqb (blockRefusal s) 0 e)) ∙ cells-none number out

@@ -1,0 +1,6 @@
+pub mod Header
+pub mod FigsLaw
+pub mod Structure
+pub mod Carrying
+pub mod Walking
+pub mod Blocks
