@@ -4,3 +4,4 @@ pub mod Structure
 pub mod Walk
 pub mod Read
 pub mod Parts
+pub mod Answers
