@@ -19,7 +19,7 @@ use Rattle.fib.specs.Walk.{Walk, all, walkFrom}
 use Rattle.fib.specs.Read.{blockRefusal, ending, readBlock, readWords}
 use Rattle.fib.proofs.Header.{none-begins}
 use Rattle.fib.proofs.Structure.{structure, only}
-use Rattle.fib.proofs.Blocks.{block-answer, block-words}
+use Rattle.fib.proofs.Blocks.{block-read, block-words}
 use Rattle.fib_write.specs.Write.{areWhole, fillUp, dataField, blockBytes, writeBlock, bytesAfter}
 use Rattle.fib_write.proofs.Filling.{length-field}
 
@@ -75,8 +75,8 @@ module _ (s : List ℕ) (whole : areWhole s ≡ true) where
     abbrev walk : Walk
     walk = walkFrom 0 room (figs s)
 
-    pub block-back : readBlock (blockBytes s) room ≡ ending (length (walk .found)) (walk .end)
-    block-back = block-answer (blockBytes s) room not-refused ∙ ap (λ (fs : List (List ℕ)). ending (length (walkFrom 0 room fs .found)) (walkFrom 0 room fs .end)) same-figs
+    pub block-back : readBlock (blockBytes s) room ≡ ending walk
+    block-back = block-read (blockBytes s) room not-refused ∙ ap (λ (fs : List (List ℕ)). ending (walkFrom 0 room fs)) same-figs
 
     pub words-found : readWords (blockBytes s) room ≡ walk .found
     words-found = block-words (blockBytes s) room not-refused ∙ ap (λ (fs : List (List ℕ)). walkFrom 0 room fs .found) same-figs
@@ -108,7 +108,7 @@ written-is s out n e =
 -- what was packed is found again: the call's cells, read with some room, give what a walk over the given FIGs gives
 pub found-again : (s out : List ℕ) (n room : ℕ) → writeBlock s (length out) ≡ Written n
     → let b = take n (bytesAfter (Written n) s out) in let w = walkFrom 0 room (figs s) in
-    (readBlock b room ≡ ending (length (w .found)) (w .end)) × (readWords b room ≡ w .found)
+    (readBlock b room ≡ ending w) × (readWords b room ≡ w .found)
 found-again s out n room e =
     let is = written-is s out n e in (
       ap (λ (b : List ℕ). readBlock b room) (is .1) ∙ block-back s (is .0) room,

@@ -20,7 +20,7 @@ use Rattle.fib.specs.Figs.{figs}
 use Rattle.fib.specs.Structure.{IsFig, AllFigs}
 use Rattle.fib.specs.Structure as structured
 use Rattle.fib.specs.Walk.{Carried, carriedBy, carried, readOne, Walk, all, andThen, walkFrom}
-use Rattle.fib.specs.Read.{ending, readBlock, readWords, roomIn, originOf, cellsAfter, wordsAfter, originsAfter}
+use Rattle.fib.specs.Read.{endingBy, ending, readBlock, readWords, roomIn, originOf, cellsAfter, wordsAfter, originsAfter}
 use Rattle.fib.proofs.Header.{at-end}
 use Rattle.fib.proofs.Structure.{figs-back}
 use Rattle.fib.proofs.Carrying.{length-carried, words-carried, origins-carried, one-tmc}
@@ -91,14 +91,14 @@ pub way-back : (ms : List Sent) (out words origins : List ℕ) (n : ℕ) → All
     (readBlock b room ≡ Taken count)
     × (wordsAfter (readWords b room) words ≡ joined (map (λ m. m .words) ms) ++ drop count words)
     × (originsAfter (readWords b room) origins ≡ joined (map (λ m. replicate (length (m .words)) (originOf (m .fig))) ms) ++ drop count origins)
-unfolding ending cellsAfter
+unfolding endingBy cellsAfter
 way-back ms out words origins n fits e enough =
     let room = roomIn words origins in
     let again = found-again (joined (bytesOf ms)) out n room e in
     let same : figs (joined (bytesOf ms)) ≡ bytesOf ms = ap figs (sym (append-nil (joined (bytesOf ms)))) ∙ figs-back (bytesOf ms) [] (all-made ms fits) (at-end [] refl) in
     let walked : walkFrom 0 room (figs (joined (bytesOf ms))) ≡ record { found = carriedIn ms; end = all } = ap (walkFrom 0 room) same ∙ walk-made ms fits 0 room enough in
     let found = again .1 ∙ ap (λ (w : Walk). w .found) walked in (
-      again .0 ∙ ap (λ (w : Walk). ending (length (w .found)) (w .end)) walked,
+      again .0 ∙ ap ending walked,
       ap (λ (cs : List Carried). wordsAfter cs words) found ∙ ap (λ (l : List ℕ). l ++ drop (length (carriedIn ms)) words) (words-sent ms),
       ap (λ (cs : List Carried). originsAfter cs origins) found ∙ ap (λ (l : List ℕ). l ++ drop (length (carriedIn ms)) origins) (origins-sent ms),
     )
