@@ -618,9 +618,11 @@ static void rds(void) {
     SAME(v.run.word, 5);
 }
 
+/* The FIG of FIRST_401 and LATER_401 for TCId 1. */
+#define WORKED_FIG 0xAB, 0x09, 0x14, 0x4C, 0x88, 0x0F, 0xA0, 0x90, 0xD4, 0x08, 0x00, 0x00
+
 static void fig(void) {
-    const uint8_t bytes[] = {0xAB, 0x09, 0x14, 0x4C, 0x88, 0x0F,
-                             0xA0, 0x90, 0xD4, 0x08, 0x00, 0x00};
+    const uint8_t bytes[] = {WORKED_FIG};
     uint64_t words[ALERTC_FIG_SYSTEM_WORDS];
     uint8_t out[ALERTC_FIG_BYTES];
     TOUCH_NONE(words);
@@ -665,6 +667,278 @@ static void fig(void) {
     TOUCH_NONE(out);
     SAME(alertc_fig_write(r.fig, words, 1, out, sizeof out).count, sizeof system_fig);
     SAME_BYTES(out, system_fig, sizeof system_fig);
+}
+
+/*
+ * The rules' computed blocks, and others whose check words were computed bit by bit from the 30
+ * bytes before them.
+ */
+static const uint8_t no_figs[ALERTC_FIB_BYTES] = {0xFF, 0, 0, 0, 0, 0, 0, 0, 0,    0,   0,
+                                                  0,    0, 0, 0, 0, 0, 0, 0, 0,    0,   0,
+                                                  0,    0, 0, 0, 0, 0, 0, 0, 0xA8, 0xA8};
+static const uint8_t one_fig[ALERTC_FIB_BYTES] = {WORKED_FIG, 0xFF, 0, 0, 0, 0, 0, 0, 0,    0,   0,
+                                                  0,          0,    0, 0, 0, 0, 0, 0, 0x2C, 0xA6};
+static const uint8_t two_figs[ALERTC_FIB_BYTES] = {WORKED_FIG, WORKED_FIG, 0xFF, 0,    0,
+                                                   0,          0,          0,    0xC0, 0xA9};
+/* Type 0 between them; no room for the end marker. */
+static const uint8_t filled[ALERTC_FIB_BYTES] = {WORKED_FIG, 0x05, 0,          0,    0,
+                                                 0,          1,    WORKED_FIG, 0x65, 0x91};
+/* The end marker is the last byte of the data field. */
+static const uint8_t marker_last[ALERTC_FIB_BYTES] = {WORKED_FIG, WORKED_FIG, 0x04, 0,    0,
+                                                      0,          1,          0xFF, 0xBF, 0x76};
+/* The last byte is type 5 with count 0, before a check word that looks like extension 1. */
+static const uint8_t header_last[ALERTC_FIB_BYTES] = {WORKED_FIG, WORKED_FIG, 0x04, 0,    0,
+                                                      0,          2,          0xA0, 0x41, 0x3F};
+/* FIG 5/2, then a system word of TCId 1. */
+static const uint8_t mixed[ALERTC_FIB_BYTES] = {WORKED_FIG, 0xA2, 0x0A, 0, 0xA3, 0x89, 0x04,
+                                                0x66,       0xFF, 0,    0, 0,    0,    0,
+                                                0,          0,    0,    0, 0,    0x9B, 0xC4};
+/* Types 0, 5 and 7 with count 0, types 1 and 7, FIG 5/2; behind them a system word of TCId 5. */
+static const uint8_t others[ALERTC_FIB_BYTES] = {
+    0x00, 0xA0, 0x21, 0x00, 0xE3, 0x09, 0x04, 0x66, 0xE0, 0xA3, 0xAA, 0x04, 0x66, 0x23, 0x09, 0x04,
+    0x66, 0xA3, 0xA9, 0x04, 0x66, 0x00, 0xFF, 0,    0,    0,    0,    0,    0,    0,    0x0E, 0x35};
+/* 0xFF within a FIG. */
+static const uint8_t ones_within[ALERTC_FIB_BYTES] = {
+    0x03, 0xFF, 0xFF, 0xFF, WORKED_FIG, 0xFF, 0, 0, 0, 0, 0, 0, 0, 0, 0, 0, 0, 0, 0, 0xB6, 0xC9};
+/* Type 0 with count 0, 30 times. */
+static const uint8_t zeros[ALERTC_FIB_BYTES] = {0, 0, 0, 0, 0, 0, 0, 0, 0,    0,   0,
+                                                0, 0, 0, 0, 0, 0, 0, 0, 0,    0,   0,
+                                                0, 0, 0, 0, 0, 0, 0, 0, 0xD5, 0xBA};
+/* 14 system words of TCId 7. */
+static const uint8_t most_words[ALERTC_FIB_BYTES] = {
+    0xBD, 0xB9, 1, 1, 2,  2,  3,  3,  4,  4,  5,  5,  6,  6,  7,    7,
+    8,    8,    9, 9, 10, 10, 11, 11, 12, 12, 13, 13, 14, 14, 0xD8, 0x62};
+/* The second FIG has D2 = 1. */
+static const uint8_t d2_set[ALERTC_FIB_BYTES] = {
+    0xA3, 0x89, 0x04, 0x66, 0xA3, 0x49, 0x04, 0x66, 0xFF, 0, 0, 0, 0, 0, 0,    0,
+    0,    0,    0,    0,    0,    0,    0,    0,    0,    0, 0, 0, 0, 0, 0x12, 0x1D};
+/* The first FIG has no data. */
+static const uint8_t no_data[ALERTC_FIB_BYTES] = {
+    0xA1, 0x09, 0xA3, 0x89, 0x04, 0x66, 0xFF, 0, 0, 0, 0, 0, 0, 0, 0,    0,
+    0,    0,    0,    0,    0,    0,    0,    0, 0, 0, 0, 0, 0, 0, 0xD6, 0x33};
+
+/* The words of a block and their origins. */
+struct carried {
+    uint64_t words[ALERTC_FIB_WORDS];
+    uint8_t origins[ALERTC_FIB_WORDS];
+};
+
+static const struct carried nothing = {{0}, {0}};
+static const struct carried worked_twice = {{FIRST_401, LATER_401, FIRST_401, LATER_401},
+                                            {1, 1, 1, 1}};
+
+static struct alertc_fib_reading answered(size_t count, size_t fig_begin, uint8_t fig_refusal) {
+    struct alertc_fib_reading r = {count, fig_begin, fig_refusal, ALERTC_ACCEPTED};
+    return r;
+}
+
+static struct alertc_fib_reading refused(uint8_t refusal) {
+    struct alertc_fib_reading r = {0, 0, 0, refusal};
+    return r;
+}
+
+#define SAME_BLOCK(bytes, answer, carried)                                                         \
+    same_block(__LINE__, bytes, sizeof bytes, ALERTC_FIB_WORDS, ALERTC_FIB_WORDS, answer, carried)
+#define SAME_BLOCK_IN(words_len, origins_len, bytes, answer, carried)                              \
+    same_block(__LINE__, bytes, sizeof bytes, words_len, origins_len, answer, carried)
+
+/*
+ * Bytes have this answer to rows of these lengths. As many of the words as it counts stand in the
+ * rows with their origins, and the cells after them are untouched.
+ */
+static void same_block(int line, const uint8_t *bytes, size_t bytes_len, size_t words_len,
+                       size_t origins_len, struct alertc_fib_reading answer,
+                       struct carried carried) {
+    uint64_t words[ALERTC_FIB_WORDS + 2], words_after[ALERTC_FIB_WORDS + 2];
+    uint8_t origins[ALERTC_FIB_WORDS + 2], origins_after[ALERTC_FIB_WORDS + 2];
+    TOUCH_NONE(words);
+    TOUCH_NONE(words_after);
+    TOUCH_NONE(origins);
+    TOUCH_NONE(origins_after);
+    memcpy(words_after, carried.words, answer.count * sizeof words[0]);
+    memcpy(origins_after, carried.origins, answer.count * sizeof origins[0]);
+    struct alertc_fib_reading r =
+        alertc_fib_read(bytes, bytes_len, words, words_len, origins, origins_len);
+    same(line, "count", r.count, answer.count);
+    same(line, "fig_begin", r.fig_begin, answer.fig_begin);
+    same(line, "fig_refusal", r.fig_refusal, answer.fig_refusal);
+    same(line, "refusal", r.refusal, answer.refusal);
+    same_bytes(line, "words", (const uint8_t *)words, (const uint8_t *)words_after, sizeof words);
+    same_bytes(line, "origins", origins, origins_after, sizeof origins);
+}
+
+static void fib(void) {
+    SAME(ALERTC_ORIGIN(0, 1), 1);
+    SAME(ALERTC_ORIGIN(1, 0), 8);
+    SAME(ALERTC_ORIGIN(1, 7), 15);
+    SAME(alertc_origin_fig(7).d1, 0);
+    SAME(alertc_origin_fig(7).tcid, 7);
+    SAME(alertc_origin_fig(13).d1, 1);
+    SAME(alertc_origin_fig(13).tcid, 5);
+
+    SAME_BLOCK(no_figs, answered(0, 0, 0), nothing);
+    SAME_BLOCK(zeros, answered(0, 0, 0), nothing);
+    SAME_BLOCK(one_fig, answered(2, 0, 0), worked_twice);
+    SAME_BLOCK(two_figs, answered(4, 0, 0), worked_twice);
+    SAME_BLOCK(filled, answered(4, 0, 0), worked_twice);
+    SAME_BLOCK(marker_last, answered(4, 0, 0), worked_twice);
+    SAME_BLOCK(header_last, answered(4, 0, 0), worked_twice);
+    SAME_BLOCK(ones_within, answered(2, 0, 0), worked_twice);
+    const struct carried of_both = {{FIRST_401, LATER_401, 0x0466}, {1, 1, 9}};
+    const struct carried of_tcid_1 = {{0x0466}, {9}}, of_tcid_5 = {{0x0466}, {13}};
+    SAME_BLOCK(mixed, answered(3, 0, 0), of_both);
+    SAME_BLOCK(others, answered(1, 0, 0), of_tcid_5);
+
+    /* What stands after the end marker is not looked at: FIGs, and one that would run past. */
+    const uint8_t after_marker[ALERTC_FIB_BYTES] = {0xA3, 0x89, 0x04, 0x66, 0xFF, WORKED_FIG, 0xBF,
+                                                    0xAB, 0xAB, 0xAB, 0xAB, 0xAB, 0xAB,       0xAB,
+                                                    0xAB, 0xAB, 0xAB, 0xAB, 0xAB, 0x6B,       0xEA};
+    SAME_BLOCK(after_marker, answered(1, 0, 0), of_tcid_1);
+
+    /* A FIG that is refused ends the reading: by D2, padding, data length, no data. */
+    const uint8_t padding[ALERTC_FIB_BYTES] = {
+        0xA3, 0x89, 0x04, 0x66, 0xA6, 0x11, 0x0B, 0x50, 0x65, 0x30, 0x39, 0xFF, 0, 0, 0,    0,
+        0,    0,    0,    0,    0,    0,    0,    0,    0,    0,    0,    0,    0, 0, 0xF8, 0x0F};
+    const uint8_t odd[ALERTC_FIB_BYTES] = {
+        0xA4, 0x89, 0x04, 0x66, 0x00, 0xA3, 0x89, 0x04, 0x66, 0xFF, 0, 0, 0, 0, 0,    0,
+        0,    0,    0,    0,    0,    0,    0,    0,    0,    0,    0, 0, 0, 0, 0x5B, 0x8B};
+    SAME_BLOCK(d2_set, answered(1, 4, ALERTC_REFUSED_RESERVED), of_tcid_1);
+    SAME_BLOCK(padding, answered(1, 4, ALERTC_REFUSED_RESERVED), of_tcid_1);
+    SAME_BLOCK(odd, answered(0, 0, ALERTC_REFUSED_LENGTH), nothing);
+    SAME_BLOCK(no_data, answered(0, 0, ALERTC_REFUSED_LENGTH), nothing);
+
+    /* So does one for which a row has no room, though a later one would fit. */
+    const struct alertc_fib_reading no_room = answered(0, 0, ALERTC_REFUSED_BUFFER);
+    for (size_t words = 0; words <= 5; words++) {
+        for (size_t origins = 0; origins <= 5; origins++) {
+            size_t room = words < origins ? words : origins;
+            struct alertc_fib_reading r =
+                room < 2 ? no_room : answered(2, 12, ALERTC_REFUSED_BUFFER);
+            SAME_BLOCK_IN(words, origins, two_figs, room < 4 ? r : answered(4, 0, 0), worked_twice);
+            r.fig_begin = room < 2 ? 0 : 15;
+            SAME_BLOCK_IN(words, origins, mixed, room < 3 ? r : answered(3, 0, 0), of_both);
+        }
+    }
+    SAME_BLOCK_IN(0, 0, no_figs, answered(0, 0, 0), nothing);
+    struct carried most;
+    for (size_t i = 0; i < ALERTC_FIB_WORDS; i++) {
+        most.words[i] = 0x0101 * (i + 1);
+        most.origins[i] = 15;
+    }
+    SAME_BLOCK(most_words, answered(ALERTC_FIB_WORDS, 0, 0), most);
+    SAME_BLOCK_IN(ALERTC_FIB_WORDS - 1, ALERTC_FIB_WORDS + 2, most_words, no_room, most);
+    SAME_BLOCK_IN(ALERTC_FIB_WORDS + 2, ALERTC_FIB_WORDS - 1, most_words, no_room, most);
+
+    /* Behind good FIGs one that runs past the data field: by 13 bytes, by one, from its last. */
+    uint8_t far_past[ALERTC_FIB_BYTES] = {WORKED_FIG, 0x1F, 0xFF, 0, 0, 0, 0, 0, 0,    0,   0,
+                                          0,          0,    0,    0, 0, 0, 0, 0, 0x9A, 0x48};
+    const uint8_t byte_past[ALERTC_FIB_BYTES] = {WORKED_FIG, WORKED_FIG, 0x06, 0,    0,
+                                                 0,          0,          0,    0x19, 0xF7};
+    const uint8_t header_past[ALERTC_FIB_BYTES] = {WORKED_FIG, WORKED_FIG, 0x04, 0,    0,
+                                                   0,          1,          0xA1, 0x04, 0x4D};
+    SAME_BLOCK(far_past, refused(ALERTC_REFUSED_LENGTH), nothing);
+    SAME_BLOCK(byte_past, refused(ALERTC_REFUSED_LENGTH), nothing);
+    SAME_BLOCK(header_past, refused(ALERTC_REFUSED_LENGTH), nothing);
+
+    /* The check word is looked at before that, and the length before both. */
+    far_past[31] ^= 1;
+    SAME_BLOCK(far_past, refused(ALERTC_REFUSED_CRC), nothing);
+    for (size_t bit = 0; bit < 8 * ALERTC_FIB_BYTES; bit++) {
+        uint8_t damaged[ALERTC_FIB_BYTES];
+        memcpy(damaged, d2_set, sizeof damaged);
+        damaged[bit / 8] = (uint8_t)(damaged[bit / 8] ^ (0x80 >> bit % 8));
+        SAME_BLOCK(damaged, refused(ALERTC_REFUSED_CRC), nothing);
+    }
+    uint8_t long_enough[40] = {0};
+    memcpy(long_enough, one_fig, sizeof one_fig);
+    for (size_t length = 0; length <= sizeof long_enough; length++) {
+        same_block(__LINE__, long_enough, length, ALERTC_FIB_WORDS, ALERTC_FIB_WORDS,
+                   length == ALERTC_FIB_BYTES ? answered(2, 0, 0) : refused(ALERTC_REFUSED_LENGTH),
+                   worked_twice);
+    }
+}
+
+#define PACKED(block, count) packed(__LINE__, block, count)
+
+/* The FIGs in the first bytes of a block are packed into that block. */
+static void packed(int line, const uint8_t *block, size_t count) {
+    uint8_t out[ALERTC_FIB_BYTES + 1];
+    for (size_t room = ALERTC_FIB_BYTES; room <= sizeof out; room++) {
+        TOUCH_NONE(out);
+        struct alertc_written w = alertc_fib_write(block, count, out, room);
+        same(line, "refusal", w.refusal, ALERTC_ACCEPTED);
+        same(line, "count", w.count, ALERTC_FIB_BYTES);
+        same_bytes(line, "block", out, block, ALERTC_FIB_BYTES);
+        rest_untouched(line, "rest", out, ALERTC_FIB_BYTES, sizeof out);
+    }
+}
+
+#define NOT_PACKED(figs, count, room, refusal) not_packed(__LINE__, figs, count, room, refusal)
+
+/* Bytes are not packed, for this refusal, and the lent room is untouched. */
+static void not_packed(int line, const uint8_t *figs, size_t count, size_t room, uint8_t refusal) {
+    uint8_t out[ALERTC_FIB_BYTES];
+    TOUCH_NONE(out);
+    struct alertc_written w = alertc_fib_write(figs, count, out, room);
+    same(line, "refusal", w.refusal, refusal);
+    same(line, "count", w.count, 0);
+    rest_untouched(line, "rest", out, 0, sizeof out);
+}
+
+static void fib_writer(void) {
+    PACKED(no_figs, 0);
+    PACKED(one_fig, 12);
+    PACKED(two_figs, 24);
+    PACKED(filled, 30);
+    PACKED(marker_last, 29);
+    PACKED(header_last, 30);
+    PACKED(mixed, 19);
+    PACKED(others, 22);
+    PACKED(ones_within, 16);
+    PACKED(zeros, 30);
+    PACKED(most_words, 30);
+    PACKED(d2_set, 8);
+    PACKED(no_data, 6);
+
+    /* Cut FIGs, more than 30 bytes, 0xFF in a header's place. */
+    for (size_t count = 1; count < ALERTC_FIB_DATA_BYTES; count++) {
+        if (count != 12 && count != 18) {
+            NOT_PACKED(filled, count, ALERTC_FIB_BYTES, ALERTC_REFUSED_UNFIT);
+        }
+    }
+    const uint8_t byte_more[] = {WORKED_FIG, 0x05, 0, 0, 0, 0, 1, WORKED_FIG, 0x00};
+    const uint8_t ones[ALERTC_FIB_BYTES] = {0xFF};
+    const uint8_t ones_second[] = {WORKED_FIG, 0xFF};
+    const uint8_t none[40] = {0};
+    NOT_PACKED(byte_more, sizeof byte_more, ALERTC_FIB_BYTES, ALERTC_REFUSED_UNFIT);
+    NOT_PACKED(ones_second, sizeof ones_second, ALERTC_FIB_BYTES, ALERTC_REFUSED_UNFIT);
+    for (size_t count = 1; count <= sizeof ones; count++) {
+        NOT_PACKED(ones, count, ALERTC_FIB_BYTES, ALERTC_REFUSED_UNFIT);
+    }
+    for (size_t count = ALERTC_FIB_DATA_BYTES + 1; count <= sizeof none; count++) {
+        NOT_PACKED(none, count, ALERTC_FIB_BYTES, ALERTC_REFUSED_UNFIT);
+    }
+
+    /* Too little room comes last. */
+    for (size_t room = 0; room < ALERTC_FIB_BYTES; room++) {
+        NOT_PACKED(no_figs, 0, room, ALERTC_REFUSED_BUFFER);
+        NOT_PACKED(filled, 30, room, ALERTC_REFUSED_BUFFER);
+        NOT_PACKED(filled, 29, room, ALERTC_REFUSED_UNFIT);
+    }
+
+    /* From words to a block and back. */
+    const struct carried written = {{SINGLE_101, FIRST_401, LATER_401, 0x0466, 0x695E},
+                                    {2, 2, 2, 15, 15}};
+    uint8_t figs[ALERTC_FIB_DATA_BYTES], block[ALERTC_FIB_BYTES];
+    size_t first =
+        alertc_fig_write(alertc_origin_fig(2), written.words, 3, figs, sizeof figs).count;
+    size_t second = alertc_fig_write(alertc_origin_fig(15), written.words + 3, 2, figs + first,
+                                     sizeof figs - first)
+                        .count;
+    SAME(first, 16);
+    SAME(second, 6);
+    SAME(alertc_fib_write(figs, first + second, block, sizeof block).refusal, ALERTC_ACCEPTED);
+    SAME_BLOCK(block, answered(5, 0, 0), written);
 }
 
 static void drm(void) {
@@ -1059,6 +1333,8 @@ int main(void) {
     inter_road();
     rds();
     fig();
+    fib();
+    fib_writer();
     drm();
     table();
     border();

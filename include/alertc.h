@@ -1,21 +1,24 @@
 /*
  * Soilsonnet: an ALERT-C reader (ISO 14819-1) for RDS, DAB and DRM; the proved library's calls.
  *
- * Values go in and come back as structs, by value; only bytes, words, tables, catalogues and lives
- * are lent, each as a pointer and how many there are. Nothing is allocated, and nothing is kept
- * between two calls: what lasts (a run, an assembler, a table's bytes, its clock) is the caller's,
- * goes in with a call and comes back with it.
+ * Values go in and come back as structs, by value; only bytes, words, their origins, tables,
+ * catalogues and lives are lent, each as a pointer and how many there are. Nothing is allocated,
+ * and nothing is kept between two calls: what lasts (a run, an assembler, a table's bytes, its
+ * clock) is the caller's, goes in with a call and comes back with it.
  *
  * Refusals. Every result has a field `refusal`, 0 where the call answers (ALERTC_ACCEPTED) and else
  * one of enum alertc_refusal; alertc_rds_write returns it. A refusal leaves all lent memory as it
  * was, and the other fields of the result are 0, but for two that a caller stores back in any case:
- * the run of alertc_rds_receive and the next state of alertc_assembler_step.
+ * the run of alertc_rds_receive and the next state of alertc_assembler_step. A FIG that is refused
+ * within a block is no refusal of the block: alertc_fib_read then answers with `refusal` 0, leaves
+ * the words of the FIGs before it in the lent memory, and has the FIG's refusal in another field.
  *
  * What to keep for each service. One run and one assembler for each service that is followed, so
  * that the groups of two services are never joined:
  *
  *     RDS   one struct alertc_rds_run and one struct alertc_assembler for the programme tuned to
- *     DAB   one struct alertc_assembler for each TCId of the ensemble (0 to 7)
+ *     DAB   one struct alertc_assembler for each TCId of the ensemble (0 to 7), for the words of
+ *           D1 = 0; those of D1 = 1 are system words of that service and go to no assembler
  *     DRM   one struct alertc_assembler for each Short ID of the multiplex (0 to 15)
  *
  * Both are emptied (ALERTC_RDS_RUN_INIT, ALERTC_ASSEMBLER_INIT) at the start and on retuning. A
@@ -44,9 +47,9 @@ extern "C" {
 
 /* The version of this interface: the first number changes when a caller must change. */
 #define ALERTC_VERSION_MAJOR 4
-#define ALERTC_VERSION_MINOR 0
+#define ALERTC_VERSION_MINOR 1
 #define ALERTC_VERSION_PATCH 0
-#define ALERTC_VERSION "4.0.0"
+#define ALERTC_VERSION "4.1.0"
 
 /* ---- Refusals ---- */
 
@@ -91,7 +94,7 @@ static inline const char *alertc_refusal_text(unsigned refusal) {
     case ALERTC_REFUSED_LABEL_15:
         return "content: label 15";
     case ALERTC_REFUSED_UNFIT:
-        return "report, field, word, state or place unfit";
+        return "report, field, word, FIGs, state or place unfit";
     case ALERTC_REFUSED_MALFORMED:
         return "table, record, catalogue or lives malformed";
     case ALERTC_REFUSED_EVENT:
@@ -395,6 +398,62 @@ struct alertc_fig_reading alertc_fig_read(const uint8_t *bytes, size_t bytes_len
 struct alertc_written alertc_fig_write(struct alertc_fig fig, const uint64_t *words,
                                        size_t words_len, uint8_t *out, size_t out_len);
 
+/* ---- DAB: Fast Information Blocks ---- */
+
+/*
+ * A block (FIB) is a data field of whole FIGs, one after the other, and the check word of these
+ * bytes. Where the FIGs do not fill the data field, the end marker 0xFF stands in the place of a
+ * header, and then padding, which is not looked at.
+ */
+#define ALERTC_FIB_BYTES 32
+#define ALERTC_FIB_DATA_BYTES 30
+
+/* The most words that a block carries, of 37 and of 16 bits together. */
+#define ALERTC_FIB_WORDS 14
+
+/* The origin of a word: D1 and TCId of the FIG that carries it, as a number. */
+#define ALERTC_ORIGIN(d1, tcid) (8 * (d1) + (tcid))
+
+/* D1 and TCId of an origin. */
+static inline struct alertc_fig alertc_origin_fig(uint8_t origin) {
+    struct alertc_fig fig;
+    fig.d1 = (uint8_t)(origin / 8);
+    fig.tcid = (uint8_t)(origin % 8);
+    return fig;
+}
+
+struct alertc_fib_reading {
+    size_t count;        /* how many words were read: of all FIGs 5/1, or up to a refused one */
+    size_t fig_begin;    /* the byte of the block at which the refused FIG begins; 0 if none is */
+    uint8_t fig_refusal; /* the refusal of the FIG 5/1 that ended the reading; 0 if none is */
+    uint8_t refusal;     /* the refusal of the block */
+};
+
+/*
+ * Reads a block: its FIGs 5/1 in order, as alertc_fig_read does. FIGs of another type or extension
+ * are passed over, and so is type 5 with count 0. The words stand in `words`, one FIG's after the
+ * other's, and beside each word, in `origins`, its origin (ALERTC_ORIGIN). ALERTC_FIB_WORDS words
+ * and origins always suffice; the room is that of the shorter row.
+ *
+ * Refused, in this order: length (1), check word (4), a FIG of whatever type that runs past the
+ * data field (1). All this comes before any FIG is read, and leaves both rows as they were.
+ *
+ * A FIG 5/1 that is refused (1, 3, or 15 if fewer words or origins are lent than are needed) ends
+ * the reading and is part of the answer: `refusal` is 0, the words of the FIGs before it stay in
+ * the rows with their origins, and the cells after them are as they were.
+ */
+struct alertc_fib_reading alertc_fib_read(const uint8_t *bytes, size_t bytes_len,
+                                          uint64_t *words, size_t words_len,
+                                          uint8_t *origins, size_t origins_len);
+
+/*
+ * Writes a block, ALERTC_FIB_BYTES bytes, with these FIGs of whatever types, or with none. After
+ * fewer than ALERTC_FIB_DATA_BYTES bytes of FIGs come the end marker and zeros. Refused: bytes that
+ * are not whole FIGs, or more than fit (9), less room than ALERTC_FIB_BYTES (15).
+ */
+struct alertc_written alertc_fib_write(const uint8_t *figs, size_t figs_len,
+                                       uint8_t *out, size_t out_len);
+
 /* ---- DRM ---- */
 
 /* The fewest and the most bytes of a data unit, the most words and the most system words. */
@@ -440,7 +499,10 @@ struct alertc_drm_reading alertc_drm_read(const uint8_t *bytes, size_t bytes_len
 struct alertc_written alertc_drm_write(struct alertc_drm_unit unit, const uint64_t *words,
                                        size_t words_len, uint8_t *out, size_t out_len);
 
-/* The check word of data units (CRC-16, start all ones, result inverted). Nothing is refused. */
+/*
+ * The check word of data units and blocks (CRC-16, start all ones, result inverted). Nothing is
+ * refused.
+ */
 uint16_t alertc_check_word(const uint8_t *bytes, size_t bytes_len);
 
 /* ---- The message table ---- */
@@ -610,6 +672,10 @@ ALERTC_SIZE_(fig, 2);
 ALERTC_SIZE_(fig_reading, 16);
 ALERTC_AT_(fig_reading, fig, 8);
 ALERTC_AT_(fig_reading, refusal, 10);
+ALERTC_SIZE_(fib_reading, 24);
+ALERTC_AT_(fib_reading, fig_begin, 8);
+ALERTC_AT_(fib_reading, fig_refusal, 16);
+ALERTC_AT_(fib_reading, refusal, 17);
 ALERTC_SIZE_(drm_unit, 14);
 ALERTC_AT_(drm_unit, lto, 5);
 ALERTC_AT_(drm_unit, system_count, 6);

@@ -1,7 +1,7 @@
-// RDS groups, FIGs and data units.
+// RDS groups, FIGs, blocks and data units.
 ghost use mathlib.Core.Path.{_≡_};
 ghost use Rattle.rds.specs.Write.{refusalIn};
-ghost use Rattle.c_answers.specs.Carriers.{groupReading, receivedBy, figReading, unitReading};
+ghost use Rattle.c_answers.specs.Carriers.{groupReading, receivedBy, figReading, fibReading, unitReading};
 use c_values::runs::PlainRun;
 use drm::DataUnit;
 use fig::Fig;
@@ -96,6 +96,42 @@ impl FigReading {
             fig::Reading::Refused(refusal) => FigReading {
                 count: 0,
                 fig: Fig::new(),
+                refusal,
+            },
+        }
+    }
+}
+
+// How many words of a block were read; of a FIG 5/1 that was refused, the byte at which it begins and its refusal.
+#[repr(C)]
+pub struct FibReading {
+    pub count: usize,
+    pub begin: usize,
+    pub stop: u8,
+    pub refusal: u8,
+}
+
+impl FibReading {
+    pub fn of(reading: fib::Reading) -> Self
+        ensures { λ r. ⌜ r ≡ fibReading reading ⌝ }
+    {
+        match reading {
+            fib::Reading::Taken(count) => FibReading {
+                count,
+                begin: 0,
+                stop: 0,
+                refusal: 0,
+            },
+            fib::Reading::Stopped { fib, refusal } => FibReading {
+                count: fib.count,
+                begin: fib.at,
+                stop: refusal,
+                refusal: 0,
+            },
+            fib::Reading::Refused(refusal) => FibReading {
+                count: 0,
+                begin: 0,
+                stop: 0,
                 refusal,
             },
         }

@@ -1,4 +1,4 @@
-// RDS groups, FIGs and data units.
+// RDS groups, FIGs, blocks and data units.
 ghost use mathlib.Core.Path.{_≡_};
 ghost use lib.ListN.{length, drop};
 ghost use Rattle.bits.specs.Fields.{flat};
@@ -7,12 +7,15 @@ ghost use Rattle.rds.specs.Write.{writeGroup, bufferAfter, refusalIn};
 ghost use Rattle.fig.specs.Format.{headerLength};
 ghost use Rattle.fig.specs.Read.{readFig, wordsAfter as figWords};
 ghost use Rattle.fig_write.specs.Write.{writeFig, bytesAfter as figBytes};
+ghost use Rattle.fib.specs.Read.{readBlock, readWords, roomIn, wordsAfter as blockWords, originsAfter};
+ghost use Rattle.fib_write.specs.Write.{writeBlock, bytesAfter as blockBytes};
 ghost use Rattle.crc.specs.Register.{checkWord};
 ghost use Rattle.crc.specs.Block.{payload};
 ghost use Rattle.drm.specs.Read.{readUnit, wordsAfter as unitWords};
 ghost use Rattle.drm_write.specs.Write.{writeUnit, bytesAfter as unitBytes};
-ghost use Rattle.c_answers.specs.Carriers.{groupReading, received, figReading, unitReading};
+ghost use Rattle.c_answers.specs.Carriers.{groupReading, received, figReading, fibReading, unitReading};
 ghost use Rattle.c_answers.specs.Reports.{writtenBy};
+use c_answers::carriers::FibReading;
 use c_answers::carriers::FigReading;
 use c_answers::carriers::GroupReading;
 use c_answers::carriers::Received;
@@ -21,6 +24,7 @@ use c_answers::carriers::write_refusal;
 use c_answers::reports::Written;
 use c_values::runs::PlainRun;
 use drm::DataUnit;
+use fib::Fib;
 use fig::Fig;
 use rds::Group;
 
@@ -74,6 +78,25 @@ pub extern "C" fn alertc_fig_write(fig: Fig, words: &[u64], out: &mut [u8]) -> W
     ensures { λ _. ⌜ now (out .exit) ≡ figBytes (writeFig fig (now (words .entry)) (length (now (out .entry)))) fig (now (words .entry)) (now (out .entry)) ⌝ }
 {
     Written::of(fig_write::write(fig, words, out))
+}
+
+// Reads a block, the words of its FIGs 5/1 into the lent ones, and D1 and TCId of each word's FIG into the lent origins.
+#[no_mangle]
+pub extern "C" fn alertc_fib_read(bytes: &[u8], words: &mut [u64], origins: &mut [u8]) -> FibReading
+    ensures { λ r. ⌜ r ≡ fibReading (readBlock (now (bytes .entry)) (roomIn (now (words .entry)) (now (origins .entry)))) ⌝ }
+    ensures { λ _. ⌜ now (words .exit) ≡ blockWords (readWords (now (bytes .entry)) (roomIn (now (words .entry)) (now (origins .entry)))) (now (words .entry)) ⌝ }
+    ensures { λ _. ⌜ now (origins .exit) ≡ originsAfter (readWords (now (bytes .entry)) (roomIn (now (words .entry)) (now (origins .entry)))) (now (origins .entry)) ⌝ }
+{
+    FibReading::of(Fib::read(bytes, words, origins))
+}
+
+// Packs FIGs into a block. Bytes that are not whole FIGs or are too many are refused (9), then too small a buffer (15).
+#[no_mangle]
+pub extern "C" fn alertc_fib_write(figs: &[u8], out: &mut [u8]) -> Written
+    ensures { λ r. ⌜ r ≡ writtenBy (writeBlock (now (figs .entry)) (length (now (out .entry)))) ⌝ }
+    ensures { λ _. ⌜ now (out .exit) ≡ blockBytes (writeBlock (now (figs .entry)) (length (now (out .entry)))) (now (figs .entry)) (now (out .entry)) ⌝ }
+{
+    Written::of(fib_write::write(figs, out))
 }
 
 // Reads a data unit, and its words into the lent ones.

@@ -1,23 +1,21 @@
 -- One FIG of a walk, by what the FIG reader says of it by itself.
-use Prim.Native.Nat.{ℕ, _-_, _≤_}
+use Prim.Native.Nat.{ℕ, _≤_}
 use native.Mathlib.Omega.{arith}
 use mathlib.Core.Path.{_≡_, refl, sym, ap, ap₂, _∙_}
-use mathlib.Core.Bool.{Bool, true, false, _&&_}
+use mathlib.Core.Bool.{true, false}
 use mathlib.Core.List.{List, [], _++_}
 use lib.ListN.{length, drop}
-use lib.Dec.{leb, eqb}
 use Rattle.bits.specs.Fields.{flat}
 use Rattle.bits.specs.Outcome.{gives, refused}
-use Rattle.bits.proofs.Choice.{either, and-left}
-use Rattle.bits.proofs.Checks.{passed}
+use Rattle.bits.proofs.Choice.{either}
 use Rattle.bits.proofs.Fields.{length-words}
 use Rattle.bits.proofs.Outcomes.{refused-gives-none}
 use Rattle.fig.specs.declared.Fig.{Fig}
 use Rattle.fig.specs.declared.Reading.{Reading}
 use Rattle.fig.specs.declared.Reading.the-variants.{Taken, Refused}
-use Rattle.fig.specs.Format.{typeIn, followingIn, extensionIn, wordWidth}
-use Rattle.fig.specs.Read.{fields, fieldRefusal, headRefusal, readFig, figIn, wordsIn, wordsAfter}
-use Rattle.fig.proofs.Answers.{parts-taken, taken-anywhere, taken-length}
+use Rattle.fig.specs.Format.{wordWidth}
+use Rattle.fig.specs.Read.{readFig, figIn, wordsIn, wordsAfter}
+use Rattle.fig.proofs.Answers.{taken-anywhere, taken-length}
 use Rattle.fib.specs.Walk.{isTmc, Carried, carriedBy, carried, readOne}
 use Rattle.fib.specs.Each.{figBy, wordsBy, IsTaken}
 use Rattle.fib.proofs.Carrying.{one-tmc, one-other, refused-unread}
@@ -38,17 +36,6 @@ module _ (f : List ℕ) (room n : ℕ) (fig : Fig) (e : readFig f room ≡ Taken
 
   anywhere : (room′ : ℕ) → length (wordsBy f) ≤ room′ → readFig f room′ ≡ Taken fig n
   anywhere room′ h = taken-anywhere f room n fig e room′ (omega (arith, same-count))
-
-  -- it is a FIG 5/1: none that the FIG reader takes is skipped
-  pub is-tmc : isTmc f ≡ true
-  unfolding headRefusal fieldRefusal isTmc
-  is-tmc =
-      let h = fields f in
-      let long = passed (leb 2 (length f) && leb (length f) 30) 0 _ (parts-taken f room n fig e .0) in
-      let type = passed (eqb (typeIn h) 5) 1 _ (long .1) in
-      let counts = passed (eqb (followingIn h) (length f - 1)) 0 _ (type .1) in
-      let extension = passed (eqb (extensionIn h) 1) 1 _ (counts .1) in
-      ap₂ (λ (a b : Bool). a && b) (and-left (leb 2 (length f)) _ (long .0)) (ap₂ (λ (a b : Bool). a && b) (type .0) (extension .0))
 
   is-taken : IsTaken f
   unfolding wordsAfter

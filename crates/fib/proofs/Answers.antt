@@ -1,6 +1,5 @@
 -- What an answer for a block tells of the checks of the whole block and of the walk.
 use Prim.Native.Nat.{ℕ}
-use native.Mathlib.Nat.{zero-add}
 use native.Mathlib.Omega.{arith}
 use mathlib.Core.Path.{_≡_, refl, sym, ap, ap₂, _∙_}
 use mathlib.Core.List.{List}
@@ -11,19 +10,19 @@ use Rattle.bits.proofs.Choice.{either}
 use Rattle.fib.specs.declared.Fib.{Fib}
 use Rattle.fib.specs.declared.Reading.the-variants.{Taken, Stopped, Refused}
 use Rattle.fib.specs.Walk.{End, all, refusedAt, Walk}
-use Rattle.fib.specs.Read.{blockRefusal, blockWalk, ending, readBlock, readWords}
-use Rattle.fib.specs.Answers.{counted}
+use Rattle.fib.specs.Read.{blockRefusal, blockWalk, endingBy, ending, readBlock, readWords}
+use Rattle.fib.specs.Answers.{countIn}
 use Rattle.fib.proofs.Blocks.{block-read, block-words, block-refused, no-words}
 
 -- at the end of a walk that gave k words
 module _ (k : ℕ) where
-  ended-taken : (n : ℕ) (end : End) → ending k end ≡ Taken n → (n ≡ k) × (end ≡ all)
-  unfolding ending
+  ended-taken : (n : ℕ) (end : End) → endingBy k end ≡ Taken n → (n ≡ k) × (end ≡ all)
+  unfolding endingBy
   ended-taken n all e = (cc, refl)
   ended-taken n (refusedAt m at) e = let z : _≡_ {A = ℕ} 0 1 = cc in absurd (omega arith)
 
-  ended-stopped : (fib : Fib) (n : ℕ) (end : End) → ending k end ≡ Stopped fib n → (fib .count ≡ k) × (end ≡ refusedAt n (fib .at))
-  unfolding ending
+  ended-stopped : (fib : Fib) (n : ℕ) (end : End) → endingBy k end ≡ Stopped fib n → (fib .count ≡ k) × (end ≡ refusedAt n (fib .at))
+  unfolding endingBy
   ended-stopped fib n all e = let z : _≡_ {A = ℕ} 0 1 = cc in absurd (omega arith)
   ended-stopped fib n (refusedAt m at) e =
       let there : Fib = record { count = k; at = at } in
@@ -31,13 +30,13 @@ module _ (k : ℕ) where
       let number : m ≡ n = cc in
       (ap (λ (x : Fib). x .count) (sym same), ap₂ refusedAt number (ap (λ (x : Fib). x .at) same))
 
-  ended-unrefused : (n : ℕ) (end : End) → ending k end ≡ Refused n → ⊥
-  unfolding ending
+  ended-unrefused : (n : ℕ) (end : End) → endingBy k end ≡ Refused n → ⊥
+  unfolding endingBy
   ended-unrefused n all e = let z : _≡_ {A = ℕ} 0 1 = cc in omega arith
   ended-unrefused n (refusedAt m at) e = let z : _≡_ {A = ℕ} 0 1 = cc in omega arith
 
-  ended-counted : (end : End) → counted (ending k end) ≡ k
-  unfolding ending
+  ended-counted : (end : End) → countIn (endingBy k end) ≡ k
+  unfolding endingBy
   ended-counted all = refl
   ended-counted (refusedAt m at) = refl
 
@@ -49,12 +48,12 @@ module _ (s : List ℕ) (room : ℕ) where
   count = length (walk .found)
 
   -- the checks pass, and the answer is that of the walk; or they do not, and it is their refusal
-  by-checks : {P : Type 0} → (blockRefusal s ≡ 0 → ending count (walk .end) ≡ readBlock s room → P) → ((blockRefusal s ≡ 0 → ⊥) → Refused (blockRefusal s) ≡ readBlock s room → P) → P
+  by-checks : {P : Type 0} → (blockRefusal s ≡ 0 → ending walk ≡ readBlock s room → P) → ((blockRefusal s ≡ 0 → ⊥) → Refused (blockRefusal s) ≡ readBlock s room → P) → P
   by-checks passes refuses =
       either (eqb (blockRefusal s) 0)
       (λ t.
       let z = eqb-true (blockRefusal s) 0 t in
-      passes z (ap (λ (n : ℕ). ending n (walk .end)) (sym (zero-add count)) ∙ block-read s room z))
+      passes z (sym (block-read s room z)))
       (λ t.
       let h = eqb-false (blockRefusal s) 0 t in
       refuses h (sym (block-refused s room h)))
@@ -78,8 +77,8 @@ module _ (s : List ℕ) (room : ℕ) where
       (λ h r. (cc, h))
 
   -- the number of words that it tells is theirs
-  pub count-told : counted (readBlock s room) ≡ length (readWords s room)
+  pub count-told : countIn (readBlock s room) ≡ length (readWords s room)
   count-told =
       by-checks
-      (λ z w. ap counted (sym w) ∙ ended-counted count (walk .end) ∙ ap length (sym (block-words s room z)))
-      (λ h r. ap counted (sym r) ∙ ap length (sym (no-words s room h)))
+      (λ z w. ap countIn (sym w) ∙ ended-counted count (walk .end) ∙ ap length (sym (block-words s room z)))
+      (λ h r. ap countIn (sym r) ∙ ap length (sym (no-words s room h)))

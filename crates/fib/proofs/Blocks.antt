@@ -1,6 +1,5 @@
 -- A block that is refused, and one that is not.
 use Prim.Native.Nat.{ℕ, _-_}
-use native.Mathlib.Nat.{zero-add}
 use mathlib.Core.Path.{_≡_, sym, ap, _∙_}
 use mathlib.Core.List.{List, []}
 use lib.ListN.{length, take}
@@ -14,7 +13,7 @@ use Rattle.fib.specs.declared.Reading.the-variants.{Refused}
 use Rattle.fib.specs.Figs.{ended, rest}
 use Rattle.fib.specs.Walk.{Carried}
 use Rattle.fib.specs.Read.{blockRefusal, blockWalk, ending, readBlock, readWords, cellsAfter}
-use Rattle.fib.proofs.Walking.{answer, cells-none}
+use Rattle.fib.proofs.Walking.{cells-none}
 
 -- the bytes before the check word
 pub data-field : (s : List ℕ) → length s ≡ 32 → take 30 s ≡ payload s
@@ -26,11 +25,9 @@ module _ (s : List ℕ) (room : ℕ) where
     unfolding blockRefusal
     block-length = eqb-true (length s) 32 (passed (eqb (length s) 32) 0 (must (isChecked s) 4 (must (ended (rest (payload s))) 1 0)) e .0)
 
-    pub block-read : answer 0 (blockWalk s room) ≡ readBlock s room
+    pub block-read : readBlock s room ≡ ending (blockWalk s room)
     unfolding readBlock
-    block-read =
-        let w = blockWalk s room in
-        ap (λ (n : ℕ). ending n (w .end)) (zero-add (length (w .found))) ∙ sym (none Refused (blockRefusal s) (ending (length (w .found)) (w .end)) e)
+    block-read = none Refused (blockRefusal s) _ e
 
     pub block-words : readWords s room ≡ blockWalk s room .found
     unfolding readWords

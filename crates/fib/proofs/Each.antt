@@ -3,8 +3,8 @@
 use Prim.Native.Nat.{ℕ, _-_}
 use native.Mathlib.Nat.{zero-add}
 use native.Mathlib.Omega.{arith}
-use mathlib.Core.Path.{_≡_, refl, sym, ap, ap₂, _∙_}
-use mathlib.Core.List.{List, [], _∷_, _++_, map}
+use mathlib.Core.Path.{_≡_, sym, ap, ap₂, _∙_}
+use mathlib.Core.List.{List, _++_, map}
 use lib.ListN.{length, drop}
 use Rattle.bits.specs.Lists.{joined}
 use Rattle.crc.specs.Block.{payload}
@@ -16,25 +16,23 @@ use Rattle.fib.specs.Walk.{Carried, carriedBy}
 use Rattle.fib.specs.Read.{blockRefusal, blockWalk, readBlock, readWords, originOf, cellsAfter}
 use Rattle.fib.specs.Each.{tmcs, figBy, wordsBy, originsBy, GivenBy, StoppedBy}
 use Rattle.fib.proofs.Carrying.{words-carried, origins-carried}
-use Rattle.fib.proofs.Walking.{length-numbers, numbers-append}
+use Rattle.fib.proofs.Walking.{length-numbers, numbers-joined}
 use Rattle.fib.proofs.Blocks.{block-words}
 use Rattle.fib.proofs.Answers.{taken-walk, stopped-walk}
 use Rattle.fib.proofs.Passing.{givenBy, Passed, passed-all, halted}
 
 -- a number of each word that is given for FIGs
 module _ (number : Carried → ℕ) (by : List ℕ → List ℕ) (same : (f : List ℕ) → map number (carriedBy (figBy f) (wordsBy f)) ≡ by f) where
-  numbers-given : (fs : List (List ℕ)) → map number (givenBy fs) ≡ joined (map by fs)
-  unfolding joined
-  numbers-given [] = refl
-  numbers-given (f ∷ fs) = numbers-append number (carriedBy (figBy f) (wordsBy f)) (givenBy fs) ∙ ap₂ (λ (l m : List ℕ). l ++ m) (same f) (numbers-given fs)
-
   module _ (fs : List (List ℕ)) (cs : List Carried) (e : cs ≡ givenBy fs) where
+    numbers-given : map number cs ≡ joined (map by fs)
+    numbers-given = ap (map number) e ∙ numbers-joined number (λ f. carriedBy (figBy f) (wordsBy f)) by same fs
+
     length-given : length cs ≡ length (joined (map by fs))
-    length-given = sym (length-numbers number cs) ∙ ap length (ap (map number) e ∙ numbers-given fs)
+    length-given = sym (length-numbers number cs) ∙ ap length numbers-given
 
     cells-given : (n : ℕ) (out : List ℕ) → n ≡ length cs → cellsAfter number cs out ≡ joined (map by fs) ++ drop n out
     unfolding cellsAfter
-    cells-given n out h = ap₂ (λ (l : List ℕ) (m : ℕ). l ++ drop m out) (ap (map number) e ∙ numbers-given fs) (sym h)
+    cells-given n out h = ap₂ (λ (l : List ℕ) (m : ℕ). l ++ drop m out) numbers-given (sym h)
 
 word-of : (f : List ℕ) → map (λ (c : Carried). c .word) (carriedBy (figBy f) (wordsBy f)) ≡ wordsBy f
 word-of f = words-carried (figBy f) (wordsBy f)

@@ -1,19 +1,17 @@
 -- The bytes of a FIG, by its header byte.
-use Prim.Native.Nat.{ℕ, zero, suc, _+_, _%_, _^_, _≤_, _<_}
+use Prim.Native.Nat.{ℕ, zero, suc, _+_, _%_, _≤_, _<_}
 use native.Mathlib.Omega.{arith}
 use mathlib.Core.Path.{_≡_, refl, sym, ap, subst, _∙_}
-use mathlib.Core.Bool.{Bool, true, false, cond}
+use mathlib.Core.Bool.{true, false}
 use mathlib.Core.List.{List, [], _∷_, _++_}
 use lib.ListN.{length, take, drop, getD, length-append, drop-of-length-le}
 use lib.Seq.{length-take-le, drop-cons}
 use lib.Dec.{leb, eqb}
 use borrow.Author.Tests.{leb-true, le-leb, lt-leb, eq-eqb, ne-eqb}
-use Rattle.bits.specs.Bits.{bits, val}
+use Rattle.bits.specs.Bits.{bits}
 use Rattle.bits.specs.Fields.{flat, unpack}
 use Rattle.bits.proofs.Choice.{either, chosen, passed-over}
 use Rattle.bits.proofs.Value.{val-bits}
-use Rattle.fig.specs.Format.{followingIn}
-use Rattle.fig.specs.Read.{fields}
 use Rattle.fib.specs.Format.{endMarker}
 use Rattle.fib.specs.Figs.{ended, lengthSaid, firstLength}
 use Rattle.fib.specs.Structure.{IsFig}

@@ -4,6 +4,7 @@ pub mod Structure
 pub mod Carrying
 pub mod Walking
 pub mod Blocks
+pub mod TakenFigs
 pub mod Within
 pub mod Answers
 pub mod Alone

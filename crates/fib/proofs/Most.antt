@@ -20,7 +20,8 @@ use Rattle.fib.specs.Figs.{figs}
 use Rattle.fib.specs.Walk.{isTmc}
 use Rattle.fib.specs.Read.{readBlock, readWords}
 use Rattle.fib.specs.Each.{tmcs, figBy, wordsBy, IsTaken, AllTaken, GivenBy}
-use Rattle.fib.specs.Answers.{counted, Why}
+use Rattle.fib.specs.Answers.{countIn}
+use Rattle.fib.specs.Refusals.{Why}
 use Rattle.fib.proofs.Within.{figs-short}
 use Rattle.fib.proofs.Answers.{taken-walk, count-told}
 use Rattle.fib.proofs.Passing.{tmcs-more, tmcs-same}
@@ -53,11 +54,11 @@ module _ (s : List ℕ) (room : ℕ) where
     where
       by : (r : Reading) → readBlock s room ≡ r → length (readWords s room) ≤ mostWords
       by (Taken n) e =
-          omega (arith, count-told s room, ap counted e, given-few (figs (payload s)) s room n (taken-each s room n e), figs-short s (taken-walk s room n e .0))
+          omega (arith, count-told s room, ap countIn e, given-few (figs (payload s)) s room n (taken-each s room n e), figs-short s (taken-walk s room n e .0))
       by (Stopped fib n) e =
           let stop = stopped-by s room fib n e in
-          omega (arith, count-told s room, ap counted e, given-few (stop .before) s room (fib .count) (stop .given), stopped-short s room fib n e)
-      by (Refused n) e = omega (arith, count-told s room, ap counted e)
+          omega (arith, count-told s room, ap countIn e, given-few (stop .before) s room (fib .count) (stop .given), stopped-short s room fib n e)
+      by (Refused n) e = omega (arith, count-told s room, ap countIn e)
 
   pub enough-room : (fib : Fib) → mostWords ≤ room → readBlock s room ≡ Stopped fib 15 → ⊥
   enough-room fib enough e = by (stopped-why s room fib 15 e)

@@ -25,7 +25,7 @@ use Rattle.fib.specs.Structure.{IsFig, AllFigs}
 use Rattle.fib.specs.Walk.{isTmc}
 use Rattle.fib.specs.Read.{blockRefusal, readBlock, readWords, originOf, wordsAfter, originsAfter}
 use Rattle.fib.specs.Each.{StoppedBy}
-use Rattle.fib.specs.Answers.{wordBits, wordCount, Why}
+use Rattle.fib.specs.Refusals.{wordBits, wordCount, Why}
 use Rattle.fib.proofs.Structure.{structure}
 use Rattle.fib.proofs.Blocks.{cells-kept}
 use Rattle.fib.proofs.Within.{fig-among, joined-among, figs-short}

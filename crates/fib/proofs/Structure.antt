@@ -2,15 +2,14 @@
 use Prim.Native.Nat.{ℕ, zero, suc, _+_, _≤_, _<_}
 use native.Mathlib.Omega.{arith}
 use mathlib.Core.Path.{_≡_, refl, sym, ap, ap₂, subst, _∙_}
-use mathlib.Core.Bool.{true, false}
 use mathlib.Core.List.{List, [], _∷_, _++_, append-assoc}
 use lib.ListN.{length, take, drop, length-append, length-drop, take-append-drop}
 use lib.Seq.{length-take-le, take-add, drop-drop, take-at, drop-at}
 use lib.Dec.{eqb}
-use borrow.Author.Tests.{eqb-true, eqb-false, le-leb}
+use borrow.Author.Tests.{eqb-true, eqb-false}
 use Rattle.bits.specs.Lists.{joined}
 use Rattle.bits.proofs.Choice.{either}
-use Rattle.fib.specs.Figs.{ended, lengthSaid, firstLength, figs, rest}
+use Rattle.fib.specs.Figs.{firstLength, figs, rest}
 use Rattle.fib.specs.Structure.{IsFig, AllFigs, none, more, Structure}
 use Rattle.fib.proofs.Header.{first-fits, first-append, first-is-fig}
 use Rattle.fib.proofs.FigsLaw.{figs-none, figs-first}

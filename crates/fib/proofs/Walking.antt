@@ -1,20 +1,23 @@
--- One step of a walk: no FIG is left, the first gives words and the walk goes on, or it is refused.
+-- How far a walk has come, and one step of it: no FIG is left, the next gives words and the walk goes on, or it is refused. And what the
+-- words leave in the buffers.
 use Prim.Native.Nat.{ℕ, suc, _+_, _-_, _≤_}
+use native.Mathlib.Nat.{sub-zero}
 use native.Mathlib.Omega.{arith}
 use mathlib.Core.Path.{_≡_, refl, sym, ap, ap₂, _∙_}
 use mathlib.Core.List.{List, [], _∷_, _++_, map, append-assoc, append-nil}
 use lib.ListN.{length, take, drop, length-append, length-drop, drop-of-length-le}
-use lib.Seq.{length-take-le, take-at, drop-at, drop-drop, take-all}
+use lib.Seq.{length-take-le, take-at, drop-at, drop-drop, take-add, take-all}
 use borrow.Rule.Slice.PartMut.{putMid}
+use Rattle.bits.specs.Lists.{joined}
 use Rattle.bits.specs.Outcome.{Outcome, gives, refused}
-use Rattle.fib.specs.declared.Reading.{Reading}
 use Rattle.fib.specs.declared.read.Part.the-variants as part
 use Rattle.fib.specs.Figs.{firstLength, figs}
-use Rattle.fib.specs.Walk.{Carried, readOne, all, refusedAt, Walk, andThen, walkFrom}
-use Rattle.fib.specs.Read.{ending, roomIn, cellsAfter}
+use Rattle.fib.specs.Walk.{Carried, readOne, End, all, refusedAt, Walk, andThen, walkFrom}
+use Rattle.fib.specs.Read.{endingBy, ending, roomIn, cellsAfter}
 use Rattle.fib.specs.Parts.{partOf, given}
 use Rattle.fib.proofs.Header.{first-fits}
 use Rattle.fib.proofs.FigsLaw.{figs-none, figs-first}
+use Rattle.fib.proofs.Carrying.{one-fits}
 
 -- what the code's answer for one FIG tells
 pub part-words : (x : Outcome (List Carried) ℕ) (k : ℕ) → partOf x ≡ part.Words k → (x ≡ gives (given x)) × (length (given x) ≡ k)
@@ -27,17 +30,13 @@ unfolding partOf
 part-stop (gives cs) n e = let z : _≡_ {A = ℕ} 0 1 = cc in absurd (omega arith)
 part-stop (refused m) n e = let k : m ≡ n = cc in ap refused k
 
--- the answer of a walk after so many words
-abbrev pub answer : ℕ → Walk → Reading
-answer count w = ending (count + length (w .found)) (w .end)
-
 -- the walk over the FIGs of some bytes
 abbrev pub over : ℕ → ℕ → List ℕ → Walk
 over at room s = walkFrom at room (figs s)
 
 module _ (s : List ℕ) (at room : ℕ) where
   -- no FIG
-  pub walked-none : firstLength s ≡ 0 → over at room s ≡ record { found = []; end = all }
+  walked-none : firstLength s ≡ 0 → over at room s ≡ record { found = []; end = all }
   unfolding walkFrom
   walked-none e = ap (walkFrom at room) (figs-none s e)
 
@@ -60,22 +59,81 @@ module _ (s : List ℕ) (at room : ℕ) where
         (ap (λ (m : ℕ). at + m) length-first)
         h
 
-    module _ (cs : List Carried) (k : ℕ) (g : readOne room (take n s) ≡ gives cs) (h : length cs ≡ k) where
-      abbrev others : Walk
-      others = over (at + n) (room - k) (drop n s)
-
-      pub found-more : over at room s .found ≡ cs ++ others .found
-      found-more = ap (λ (w : Walk). w .found) (walked-words cs k g h)
-
-      pub answer-more : (count : ℕ) → answer (count + k) others ≡ answer count (over at room s)
-      answer-more count =
-          let m : count + k + length (others .found) ≡ count + length (cs ++ others .found) = omega (arith, length-append cs (others .found), h) in
-          ap (λ (i : ℕ). ending i (others .end)) m ∙ sym (ap (answer count) (walked-words cs k g h))
-
     -- the first is refused
-    pub walked-refused : (m : ℕ) → readOne room (take n s) ≡ refused m → over at room s ≡ record { found = []; end = refusedAt m at }
+    walked-refused : (m : ℕ) → readOne room (take n s) ≡ refused m → over at room s ≡ record { found = []; end = refusedAt m at }
     unfolding andThen
     walked-refused m g = first-step ∙ ap (λ (x : Outcome (List Carried) ℕ). andThen at x (λ k. walkFrom (at + length (take n s)) (room - k) (figs (drop n s)))) g
+
+-- how far a walk has come: at byte at, after count words, what is left of it is what is left to be found
+pub record Reached (s : List ℕ) (room at count : ℕ) : Type 0 where
+  pub inside : at ≤ length s
+  pub fits : count ≤ room
+  pub some : count ≤ length (over 0 room s .found)
+  pub left : over at (room - count) (drop at s) .found ≡ drop count (over 0 room s .found)
+  pub same-end : over at (room - count) (drop at s) .end ≡ over 0 room s .end
+
+pub started : (s : List ℕ) (room : ℕ) → Reached s room 0 0
+started s room = record {
+  inside = omega arith;
+  fits = omega arith;
+  some = omega arith;
+  left = ap (λ (m : ℕ). over 0 m s .found) (sub-zero room);
+  same-end = ap (λ (m : ℕ). over 0 m s .end) (sub-zero room);
+}
+
+module _ (s : List ℕ) (room at count : ℕ) (h : Reached s room at count) where
+  abbrev all-words : List Carried
+  all-words = over 0 room s .found
+
+  length-left : length (over at (room - count) (drop at s) .found) ≡ length all-words - count
+  length-left = ap length (h .left) ∙ length-drop count all-words
+
+  -- nothing is left: the words are all that are found
+  module _ (e : End) (w : over at (room - count) (drop at s) ≡ record { found = []; end = e }) where
+    counted-all : length all-words ≡ count
+    counted-all = omega (arith, length-left, ap (λ (x : Walk). length (x .found)) w, h .some)
+
+    pub took-all : take count all-words ≡ all-words
+    took-all = take-all count all-words (omega (arith, counted-all))
+
+    pub answered : endingBy count e ≡ ending (over 0 room s)
+    answered = ap₂ endingBy (sym counted-all) (sym (ap (λ (x : Walk). x .end) w) ∙ h .same-end)
+
+  pub at-last : firstLength (drop at s) ≡ 0 → over at (room - count) (drop at s) ≡ record { found = []; end = all }
+  at-last e = walked-none (drop at s) at (room - count) e
+
+  module _ (n : ℕ) (e : firstLength (drop at s) ≡ n) (more : n ≡ 0 → ⊥) where
+    pub at-refused : (m : ℕ) → readOne (room - count) (take n (drop at s)) ≡ refused m → over at (room - count) (drop at s) ≡ record { found = []; end = refusedAt m at }
+    at-refused m g = walked-refused (drop at s) at (room - count) n e more m g
+
+    -- the next FIG gives k words
+    module _ (cs : List Carried) (k : ℕ) (g : readOne (room - count) (take n (drop at s)) ≡ gives cs) (l : length cs ≡ k) where
+      abbrev next : Walk
+      next = over (at + n) (room - (count + k)) (drop (at + n) s)
+
+      stepped : over at (room - count) (drop at s) ≡ record { found = cs ++ next .found; end = next .end }
+      stepped =
+          let left-over : room - count - k ≡ room - (count + k) = omega arith in
+          walked-words (drop at s) at (room - count) n e more cs k g l
+          ∙ ap₂ (λ (m : ℕ) (t : List ℕ). let w : Walk = record { found = cs ++ over (at + n) m t .found; end = over (at + n) m t .end } in w)
+          left-over
+          (drop-drop n at s)
+
+      then-left : drop count all-words ≡ cs ++ next .found
+      then-left = sym (h .left) ∙ ap (λ (w : Walk). w .found) stepped
+
+      -- they follow those before
+      pub words-follow : take (count + k) all-words ≡ take count all-words ++ cs
+      words-follow = take-add count k all-words ∙ ap (λ (ws : List Carried). take count all-words ++ ws) (ap (take k) then-left ∙ take-at cs (next .found) k l)
+
+      pub reached : Reached s room (at + n) (count + k)
+      reached = record {
+        inside = omega (arith, e, first-fits (drop at s), length-drop at s, h .inside);
+        fits = omega (arith, h .fits, l, one-fits (take n (drop at s)) (room - count) cs g);
+        some = omega (arith, h .some, length-drop count all-words, ap length then-left, length-append cs (next .found), l);
+        left = sym (sym (drop-drop k count all-words) ∙ ap (drop k) then-left ∙ drop-at cs (next .found) k l);
+        same-end = sym (ap (λ (w : Walk). w .end) stepped) ∙ h .same-end;
+      }
 
 -- the numbers of words that follow others stand in the cells that follow
 module _ (number : Carried → ℕ) where
@@ -83,9 +141,15 @@ module _ (number : Carried → ℕ) where
   length-numbers [] = refl
   length-numbers (c ∷ cs) = ap suc (length-numbers cs)
 
-  pub numbers-append : (cs ds : List Carried) → map number (cs ++ ds) ≡ map number cs ++ map number ds
+  numbers-append : (cs ds : List Carried) → map number (cs ++ ds) ≡ map number cs ++ map number ds
   numbers-append [] ds = refl
   numbers-append (c ∷ cs) ds = ap (λ (l : List ℕ). number c ∷ l) (numbers-append cs ds)
+
+  -- words that stand one list after the other
+  pub numbers-joined : {A : Type 0} (each : A → List Carried) (by : A → List ℕ) → ((a : A) → map number (each a) ≡ by a) → (l : List A) → map number (joined (map each l)) ≡ joined (map by l)
+  unfolding joined
+  numbers-joined each by same [] = refl
+  numbers-joined each by same (a ∷ l) = numbers-append (each a) (joined (map each l)) ∙ ap₂ (λ (x y : List ℕ). x ++ y) (same a) (numbers-joined each by same l)
 
   length-cells : (cs : List Carried) (out : List ℕ) → length cs ≤ length out → length (cellsAfter number cs out) ≡ length out
   unfolding cellsAfter

@@ -4,5 +4,6 @@ pub mod Structure
 pub mod Walk
 pub mod Read
 pub mod Parts
-pub mod Each
 pub mod Answers
+pub mod Each
+pub mod Refusals

@@ -25,14 +25,17 @@ blockRefusal s =
 abbrev pub blockWalk : List ℕ → ℕ → Walk
 blockWalk s room = walkFrom 0 room (figs (payload s))
 
--- what is answered at the end of a walk that gave n words
-unfoldable pub ending : ℕ → End → Reading
-ending n all = Taken n
-ending n (refusedAt refusal at) = Stopped (record { count = n; at = at }) refusal
+-- what is answered after a walk that gave n words, by how it ended
+unfoldable pub endingBy : ℕ → End → Reading
+endingBy n all = Taken n
+endingBy n (refusedAt refusal at) = Stopped (record { count = n; at = at }) refusal
+
+abbrev pub ending : Walk → Reading
+ending w = endingBy (length (w .found)) (w .end)
 
 -- a block read with room for so many words
 unfoldable pub readBlock : List ℕ → ℕ → Reading
-readBlock s room = unless Refused (blockRefusal s) (ending (length (blockWalk s room .found)) (blockWalk s room .end))
+readBlock s room = unless Refused (blockRefusal s) (ending (blockWalk s room))
 
 -- the words that it gives, each with its FIG; none where the block is refused
 unfoldable pub readWords : List ℕ → ℕ → List Carried

@@ -1,5 +1,5 @@
 -- What it is for bytes to be FIGs and what follows them (EN 300 401, 5.2.1).
-use Prim.Native.Nat.{ℕ, _≤_}
+use Prim.Native.Nat.{ℕ}
 use mathlib.Core.Path.{_≡_}
 use mathlib.Core.Bool.{false}
 use mathlib.Core.List.{List, [], _∷_, _++_}

@@ -1,6 +1,6 @@
 // A block read: the checks of the whole block, and then its FIGs in order.
 ghost use mathlib.Core.Path.{_≡_};
-ghost use Prim.Native.Nat.{_+_, _≤_, _<_, _^_, min};
+ghost use Prim.Native.Nat.{_<_, min};
 ghost use lib.ListN.{length, replicate};
 ghost use Rattle.fig.specs.Read.{readFig};
 ghost use Rattle.fib.specs.Figs.{ended, figs, rest};
@@ -33,32 +33,38 @@ impl Fib {
         let refused = block_refusal(s);
         if refused == 0 {
             let end = Fib::DATA;
-            Fib::new().walk(&s[..end], words, origins)
+            walk(&s[..end], words, origins)
         } else {
             Reading::Refused(refused)
         }
     }
+}
 
-    // Reads FIGs one after the other, into the first cells of what is left of the buffers.
-    fn walk(self, s: &[u8], words: &mut [u64], origins: &mut [u8]) -> Reading
-        requires { ⌜ (self .at + length (now s) < 2 ^ 64) × (self .count + length (now words) < 2 ^ 64) ⌝ }
-        ensures { λ r. ⌜ r ≡ ending (self .count + length (walkFrom (self .at) (roomIn (now (words .entry)) (now (origins .entry))) (figs (now (s .entry))) .found)) (walkFrom (self .at) (roomIn (now (words .entry)) (now (origins .entry))) (figs (now (s .entry))) .end) ⌝ }
-        ensures { λ _. ⌜ now (words .exit) ≡ wordsAfter (walkFrom (self .at) (roomIn (now (words .entry)) (now (origins .entry))) (figs (now (s .entry))) .found) (now (words .entry)) ⌝ }
-        ensures { λ _. ⌜ now (origins .exit) ≡ originsAfter (walkFrom (self .at) (roomIn (now (words .entry)) (now (origins .entry))) (figs (now (s .entry))) .found) (now (origins .entry)) ⌝ }
-    {
-        let n = first_length(s);
+// Reads the FIGs of a data field in order, each into what the ones before it left of the buffers.
+fn walk(s: &[u8], words: &mut [u64], origins: &mut [u8]) -> Reading
+    ensures { λ r. ⌜ r ≡ ending (walkFrom 0 (roomIn (now (words .entry)) (now (origins .entry))) (figs (now (s .entry)))) ⌝ }
+    ensures { λ _. ⌜ now (words .exit) ≡ wordsAfter (walkFrom 0 (roomIn (now (words .entry)) (now (origins .entry))) (figs (now (s .entry))) .found) (now (words .entry)) ⌝ }
+    ensures { λ _. ⌜ now (origins .exit) ≡ originsAfter (walkFrom 0 (roomIn (now (words .entry)) (now (origins .entry))) (figs (now (s .entry))) .found) (now (origins .entry)) ⌝ }
+{
+    let mut fib = Fib::new();
+    loop {
+        let count = fib.count;
+        let at = fib.at;
+        let n = first_length(&s[at..]);
         if n == 0 {
-            return Reading::Taken(self.count);
+            return Reading::Taken(count);
         }
-        match read_one(&s[..n], words, origins) {
+        let end = at + n;
+        match read_one(&s[at..end], &mut words[count..], &mut origins[count..]) {
             Part::Words(k) => {
-                let next = Fib {
-                    count: self.count + k,
-                    at: self.at + n,
+                fib = Fib {
+                    count: count + k,
+                    at: end,
                 };
-                next.walk(&s[n..], &mut words[k..], &mut origins[k..])
             }
-            Part::Refused(refusal) => Reading::Stopped { fib: self, refusal },
+            Part::Refused(refusal) => {
+                return Reading::Stopped { fib, refusal };
+            }
         }
     }
 }

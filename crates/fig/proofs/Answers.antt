@@ -50,13 +50,16 @@ module _ (s : List ℕ) (room n : ℕ) (fig : Fig) (e : readFig s room ≡ Taken
   abbrev width : ℕ
   width = wordWidth (figOf (fields s) .d1)
 
-  pub parts-taken : (headRefusal s ≡ 0) × (readData (figOf (fields s)) (drop 2 s) room ≡ Taken fig n)
+  parts-taken : (headRefusal s ≡ 0) × (readData (figOf (fields s)) (drop 2 s) room ≡ Taken fig n)
   unfolding readFig
   parts-taken = unless-taken (headRefusal s) n fig (readData (figOf (fields s)) (drop 2 s) room) e
 
   data-parts : (dataRefusal width (drop 2 s) room ≡ 0) × (Taken (figOf (fields s)) (countOf width (drop 2 s)) ≡ Taken fig n)
   unfolding readData
   data-parts = unless-taken (dataRefusal width (drop 2 s) room) n fig (Taken (figOf (fields s)) (countOf width (drop 2 s))) (parts-taken .1)
+
+  pub taken-head : headRefusal s ≡ 0
+  taken-head = parts-taken .0
 
   pub taken-fig : fig ≡ figOf (fields s)
   taken-fig = let h = data-parts .1 in cc
@@ -71,14 +74,14 @@ module _ (s : List ℕ) (room n : ℕ) (fig : Fig) (e : readFig s room ≡ Taken
   pub taken-anywhere : (room′ : ℕ) → n ≤ room′ → readFig s room′ ≡ Taken fig n
   unfolding readFig readData
   taken-anywhere room′ h =
-      none Refused (headRefusal s) _ (parts-taken .0)
+      none Refused (headRefusal s) _ taken-head
       ∙ none Refused (dataRefusal width (drop 2 s) room′) _ (any-room width (drop 2 s) room room′ (data-parts .0) (omega (arith, taken-count)))
       ∙ data-parts .1
 
   -- a word takes two bytes or more, after the header
   pub taken-length : (n * 2 + 2 ≤ length s) × (length s ≤ 30)
   taken-length =
-      let h = length-fits s (parts-taken .0) in
+      let h = length-fits s taken-head in
       (omega (arith, h .0, taken-count, two-bytes (figOf (fields s) .d1) (drop 2 s), length-drop 2 s), h .1)
 
   -- D1 is one bit, and TCId three

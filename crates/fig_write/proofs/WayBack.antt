@@ -2,7 +2,7 @@
 use Prim.Native.Nat.{ℕ, _+_, _-_, _*_, _/_, _%_, _≤_, _<_}
 use native.Mathlib.Omega.{arith}
 use mathlib.Core.Path.{_≡_, refl, sym, ap, ap₂, _∙_}
-use mathlib.Core.Bool.{Bool, true, false, _&&_, cond}
+use mathlib.Core.Bool.{Bool, true, _&&_, cond}
 use mathlib.Core.List.{List, _++_}
 use lib.ListN.{length, take, drop, length-append, length-drop}
 use lib.Seq.{take-at, drop-at}
@@ -22,7 +22,7 @@ use Rattle.fig.specs.declared.Reading.{Reading}
 use Rattle.fig.specs.declared.Reading.the-variants.{Taken, Refused}
 use Rattle.bits.specs.declared.Writing.the-variants.{Written}
 use Rattle.fig.specs.Format.{figFormat, wordWidth}
-use Rattle.fig.specs.Read.{fields, figOf, countOf, padding, fieldRefusal, headRefusal, dataRefusal, readData, readFig, wordsAfter}
+use Rattle.fig.specs.Read.{fields, figOf, countOf, padding, fieldRefusal, headRefusal, dataRefusal, readData, readFig, wordsIn, wordsAfter}
 use Rattle.fig_write.specs.Write.{figFits, dataLength, figLength, figValues, dataBits, figBytes, writeFig, bytesAfter}
 use Rattle.fig.proofs.Data.{width-bounds}
 use Rattle.fig_write.proofs.Ranges.{each-below, some-words, bits-fit, header-fits}
@@ -117,23 +117,28 @@ module _ (fig : Fig) (ws : List ℕ) where
         ∙ ap₂ (λ (m k : ℕ). unless Refused m (Taken fig k)) (data-passes room) count-back
         ∙ last-check Refused (leb (length ws) room) 14 (Taken fig (length ws))
 
-    -- the words stand in the first cells, and later cells stay
-    pub words-back : (out : List ℕ) → wordsAfter (Taken fig (length ws)) (drop 2 s) out ≡ ws ++ drop (length ws) out
-    unfolding wordsAfter
-    words-back out = ap (λ (l : List ℕ). l ++ drop (length ws) out) (ap (words w (length ws)) data-back ∙ words-front w ws (bits left 0) (each-below fig ws fit))
+    -- the words are in the data bytes
+    pub words-back : wordsIn (Taken fig (length ws)) (drop 2 s) ≡ ws
+    words-back = ap (words w (length ws)) data-back ∙ words-front w ws (bits left 0) (each-below fig ws fit)
 
--- the n cells that a call wrote, read into other cells
+-- the n cells that a call wrote are the FIG
+pub written-is : (fig : Fig) (ws out : List ℕ) (n : ℕ) → writeFig fig ws (length out) ≡ Written n → (figFits fig ws ≡ true) × (take n (bytesAfter (Written n) fig ws out) ≡ figBytes fig ws)
+unfolding bytesAfter
+written-is fig ws out n e =
+    let written = written-fits fig ws (length out) n e in
+    (written .0, take-at (figBytes fig ws) (drop n out) n (length-bytes fig ws (written .0) ∙ written .1))
+
+-- and read into other cells they give its words: these stand in the first cells, and later cells stay
 pub way-back : (fig : Fig) (ws out cells : List ℕ) (n : ℕ) → writeFig fig ws (length out) ≡ Written n → length ws ≤ length cells
     → let s = take n (bytesAfter (Written n) fig ws out) in
     (readFig s (length cells) ≡ Taken fig (length ws)) × (wordsAfter (readFig s (length cells)) (drop 2 s) cells ≡ ws ++ drop (length ws) cells)
-unfolding bytesAfter
+unfolding wordsAfter
 way-back fig ws out cells n e room =
-    let written = written-fits fig ws (length out) n e in
-    let fit = written .0 in
-    let bytes : take n (figBytes fig ws ++ drop n out) ≡ figBytes fig ws = take-at (figBytes fig ws) (drop n out) n (length-bytes fig ws fit ∙ written .1) in
+    let is = written-is fig ws out n e in
+    let fit = is .0 in
     let taken : readFig (figBytes fig ws) (length cells) ≡ Taken fig (length ws) = write-read fig ws fit (length cells) ∙ chosen _ _ _ (le-leb (length ws) (length cells) room) in (
-      ap (λ (s : List ℕ). readFig s (length cells)) bytes ∙ taken,
-      ap (λ (s : List ℕ). wordsAfter (readFig s (length cells)) (drop 2 s) cells) bytes
+      ap (λ (s : List ℕ). readFig s (length cells)) (is .1) ∙ taken,
+      ap (λ (s : List ℕ). wordsAfter (readFig s (length cells)) (drop 2 s) cells) (is .1)
           ∙ ap (λ (r : Reading). wordsAfter r (drop 2 (figBytes fig ws)) cells) taken
-          ∙ words-back fig ws fit cells,
+          ∙ ap (λ (l : List ℕ). l ++ drop (length ws) cells) (words-back fig ws fit),
     )

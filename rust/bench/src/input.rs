@@ -10,6 +10,10 @@ pub const FIG_BYTES: usize = 30;
 pub const FIG_WORDS: usize = 6;
 /// The most words of any FIG, those of 16 bits included.
 pub const FIG_SYSTEM_WORDS: usize = 14;
+/// Bytes of a block.
+pub const FIB_BYTES: usize = 32;
+/// The words of the two FIGs of a block.
+const FIB_FIGS: [usize; 2] = [3, 2];
 /// The most bytes and words of a data unit.
 pub const UNIT_BYTES: usize = 128;
 pub const UNIT_WORDS: usize = 27;
@@ -123,15 +127,34 @@ pub fn groups(words: &[u64]) -> Vec<Vec<u8>> {
 
 pub const FIG: Fig = Fig { d1: 0, tcid: 1 };
 
+/// The FIG of these words.
+fn fig(words: &[u64]) -> Vec<u8> {
+    let mut out = vec![0; FIG_BYTES];
+    let written = calls::fig_write(FIG, words, &mut out);
+    assert_eq!(written.refusal, 0);
+    out.truncate(written.count);
+    out
+}
+
 pub fn figs(words: &[u64]) -> Vec<Vec<u8>> {
-    let fig = |words: &[u64]| {
-        let mut out = vec![0; FIG_BYTES];
-        let written = calls::fig_write(FIG, words, &mut out);
-        assert_eq!(written.refusal, 0);
-        out.truncate(written.count);
+    words.chunks_exact(FIG_WORDS).map(fig).collect()
+}
+
+/// Two FIGs for each block, as many words as fit into it.
+pub fn pairs_of_figs(words: &[u64]) -> Vec<Vec<u8>> {
+    let [first, second] = FIB_FIGS;
+    let pair = |words: &[u64]| [fig(&words[..first]), fig(&words[first..])].concat();
+    words.chunks_exact(first + second).map(pair).collect()
+}
+
+/// Blocks of FIGs.
+pub fn fibs(figs: &[Vec<u8>]) -> Vec<Vec<u8>> {
+    let fib = |figs: &Vec<u8>| {
+        let mut out = vec![0; FIB_BYTES];
+        assert_eq!(calls::fib_write(figs, &mut out).refusal, 0);
         out
     };
-    words.chunks_exact(FIG_WORDS).map(fig).collect()
+    figs.iter().map(fib).collect()
 }
 
 pub const UNIT: DrmUnit = DrmUnit {
@@ -196,6 +219,21 @@ pub const FIG_FAULTS: [fn(&mut Vec<u8>); 5] = [
     |fig| fig[1] ^= 2,
     |fig| fig[1] ^= 0x40,
     |fig| *fig.last_mut().expect("a byte") ^= 1,
+];
+
+/// Turns bits of a byte of a block's data field, and makes its check word anew.
+fn turn(fib: &mut [u8], at: usize, bits: u8) {
+    fib[at] ^= bits;
+    let (data, check) = fib.split_at_mut(FIB_BYTES - 2);
+    check.copy_from_slice(&calls::check_word(data).to_be_bytes());
+}
+
+/// A bit of a word, a byte too few, a second FIG that runs past or has a reserved bit.
+pub const FIB_FAULTS: [fn(&mut Vec<u8>); 4] = [
+    |fib| fib[4] ^= 8,
+    |fib| fib.truncate(FIB_BYTES - 1),
+    |fib| turn(fib, 16, 0x14),
+    |fib| turn(fib, 17, 0x40),
 ];
 
 /// A bit of the last word or of the check word, or a byte too few.

@@ -69,6 +69,25 @@ fn bench_carriers(words: &[u64]) {
         (side::fig_write(FIG, words, &mut out), out)
     });
 
+    let pairs = input::pairs_of_figs(words);
+    let fibs = input::fibs(&pairs);
+    let rough = input::rough(&fibs, &input::FIB_FAULTS);
+    for (what, fibs) in [
+        ("FIB of two FIGs", fibs),
+        ("FIB of two FIGs, one in four refused", rough),
+    ] {
+        both!(what, &fibs, |fib| {
+            let mut words = [0; input::FIG_SYSTEM_WORDS];
+            let mut origins = [0; input::FIG_SYSTEM_WORDS];
+            let reading = side::fib_read(fib, &mut words, &mut origins);
+            (reading, words, origins)
+        });
+    }
+    both!("FIB of two FIGs written", &pairs, |figs| {
+        let mut out = [0; input::FIB_BYTES];
+        (side::fib_write(figs, &mut out), out)
+    });
+
     let unit_words = input::unit_words(2000);
     let units = input::units(&unit_words);
     let rough = input::rough(&units, &input::UNIT_FAULTS);

@@ -4,9 +4,9 @@
 #![deny(warnings)]
 
 use proved::{
-    AssemblerAnswer, DrmReading, ExpiryAnswer, FigReading, RdsReading, RdsReceived, SystemFields,
-    SystemReading, SystemWritten, TableAnswer, TableReading, Taking, WordComposed, WordFields,
-    WordParsed, Written,
+    AssemblerAnswer, DrmReading, ExpiryAnswer, FibReading, FigReading, RdsReading, RdsReceived,
+    SystemFields, SystemReading, SystemWritten, TableAnswer, TableReading, Taking, WordComposed,
+    WordFields, WordParsed, Written,
 };
 use second::assembler::{Answer, Assembler, Open};
 use second::clock::Utc;
@@ -18,7 +18,7 @@ use second::report::Report;
 use second::system::SystemWord;
 use second::table::{self, Arrival, Entry, Lists, Service};
 use second::word::{self, Head, Word};
-use second::Refusal;
+use second::{fib, fib_write, Refusal};
 
 pub use second::crc::crc as check_word;
 
@@ -408,6 +408,25 @@ pub fn fig_write(fig: proved::Fig, words: &[u64], out: &mut [u8]) -> Written {
     let tcid = fig.tcid;
     let (count, refusal) =
         split(flag(fig.d1).and_then(|system| Fig { system, tcid }.write(words, out)));
+    Written { count, refusal }
+}
+
+pub fn fib_read(bytes: &[u8], words: &mut [u64], origins: &mut [u8]) -> FibReading {
+    let read = fib::read(bytes, words, origins).map(|reading| {
+        let refused = reading.refused;
+        FibReading {
+            count: reading.count,
+            fig_begin: refused.map_or(0, |fig| fig.begin),
+            fig_refusal: refused.map_or(0, |fig| fig.refusal.number()),
+            refusal: 0,
+        }
+    });
+    let (reading, refusal) = split(read);
+    FibReading { refusal, ..reading }
+}
+
+pub fn fib_write(figs: &[u8], out: &mut [u8]) -> Written {
+    let (count, refusal) = split(fib_write::write(figs, out));
     Written { count, refusal }
 }
 

@@ -12,15 +12,13 @@ pub const WORD: u64 = 0xA5A5_5A5A_0F0F_F0F0;
 /// The application identification of ALERT-C.
 const ALERT_C: u16 = 0xCD46;
 
-/// Lent words of which the first ones were filled.
-pub fn filled(words: &[u64], room: usize) -> Vec<u64> {
-    let mut lent = words.to_vec();
-    lent.resize(room, WORD);
-    lent
+/// Lent cells of which the first ones were filled.
+pub fn filled<T: Copy>(cells: &[T], entry: &[T]) -> Vec<T> {
+    [cells, &entry[cells.len()..]].concat()
 }
 
 /// What a writer of these bytes answers and leaves in what it was lent: 15 if they have no room.
-fn written(bytes: &[u8], mut lent: Vec<u8>) -> (Written, Vec<u8>) {
+pub fn written(bytes: &[u8], mut lent: Vec<u8>) -> (Written, Vec<u8>) {
     let mut written = Written {
         count: 0,
         refusal: 15,
@@ -93,7 +91,7 @@ impl Trial {
                 fig,
                 refusal: 0,
             };
-            let meant = (reading, filled(words, room));
+            let meant = (reading, filled(words, &entry));
             self.tally.expect(Call::FigRead, &input, (proved, a), meant);
         }
     }
@@ -267,7 +265,7 @@ impl Trial {
                 unit,
                 refusal: 0,
             };
-            let meant = (reading, filled(words, room));
+            let meant = (reading, filled(words, &entry));
             self.tally.expect(Call::DrmRead, &input, (proved, a), meant);
         }
     }

@@ -10,7 +10,10 @@ use listings::Programs;
 use random::Random;
 use tally::Tally;
 
+mod blocks;
 mod carriers;
+mod fib_write;
+mod fibs;
 mod fields;
 mod listings;
 mod random;
@@ -52,6 +55,12 @@ impl Trial {
         times(100, Self::assembler_refusal);
         times(600, Self::fig_read);
         times(300, Self::fig_write);
+        times(600, Self::fib_read);
+        times(100, Self::fib_past);
+        times(200, Self::fib_damaged);
+        times(200, Self::fib_random);
+        times(300, Self::fib_write);
+        times(100, Self::fib_unfit);
         times(600, Self::drm_read);
         times(300, Self::drm_write);
         times(50, Self::check_word);
@@ -116,6 +125,8 @@ fn main() -> ExitCode {
         trial.system_read(word);
     });
     trial.fig_faults();
+    trial.fib_headers();
+    trial.fib_rooms();
     trial.drm_faults();
     for _ in 0..options.rounds {
         trial.round();

@@ -98,7 +98,7 @@ impl Trial {
                 count: meant.len(),
                 refusal: 0,
             };
-            let meant = (written, filled(&meant, room));
+            let meant = (written, filled(&meant, &entry));
             self.tally
                 .expect(Call::ReportWrite, &input, (proved, a), meant);
         }

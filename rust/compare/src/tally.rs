@@ -5,7 +5,7 @@ use std::fmt::Debug;
 use std::process;
 
 /// The calls, each with the refusals that it can give.
-const CALLS: [(Call, &str, &[u8]); 21] = [
+const CALLS: [(Call, &str, &[u8]); 23] = [
     (Call::WordParse, "word parse", &[9]),
     (Call::WordCompose, "word compose", &[9]),
     (Call::SystemRead, "system read", &[2]),
@@ -17,6 +17,8 @@ const CALLS: [(Call, &str, &[u8]); 21] = [
     (Call::AssemblerStep, "assembler step", &[5, 6, 7, 8, 9]),
     (Call::FigRead, "FIG read", &[1, 2, 3, 15]),
     (Call::FigWrite, "FIG write", &[9, 15]),
+    (Call::FibRead, "FIB read", &[1, 4]),
+    (Call::FibWrite, "FIB write", &[9, 15]),
     (Call::DrmRead, "DRM read", &[1, 2, 3, 4, 15]),
     (Call::DrmWrite, "DRM write", &[9, 15]),
     (Call::CheckWord, "check word", &[]),
@@ -42,6 +44,8 @@ pub enum Call {
     AssemblerStep,
     FigRead,
     FigWrite,
+    FibRead,
+    FibWrite,
     DrmRead,
     DrmWrite,
     CheckWord,
@@ -99,6 +103,7 @@ answers! {
     Written {}
     AssemblerAnswer { next }
     FigReading {}
+    FibReading {}
     DrmReading {}
     TableAnswer {}
     TableReading {}

@@ -1,9 +1,13 @@
 //! Transmissions with losses (demand 3), as words alone and through each carrier.
 
+use crate::blocks::{self, SentFig, MARKER};
 use crate::sender::{self, Message, FIG_WORDS, UNIT_WORDS};
 use crate::tally::Call;
 use crate::Trial;
 use proved::{Assembler, DrmUnit, Fig, RdsRun};
+
+/// The most words of 37 bits in two FIGs of a block.
+const FIB_WORDS: usize = 5;
 
 /// How words are carried.
 #[derive(Clone, Copy, Debug, PartialEq, Eq)]
@@ -11,6 +15,7 @@ enum Carrier {
     Words,
     Rds,
     Fig,
+    Fib,
     Drm,
 }
 
@@ -21,7 +26,7 @@ struct Sent {
     message: Option<usize>,
 }
 
-/// What is received or lost as a whole: the words of a group, a FIG or a data unit.
+/// What is received or lost as a whole: the words of a group, a FIG, a block or a data unit.
 #[derive(Clone, Debug)]
 struct Burst {
     words: Vec<Sent>,
@@ -40,8 +45,13 @@ impl Trial {
     /// A transmission of well-formed messages with losses that demand 3 bears: the reports are
     /// those of the messages that arrive whole.
     pub fn transmission(&mut self) {
-        let carriers = [Carrier::Words, Carrier::Rds, Carrier::Fig, Carrier::Drm];
-        let carrier = self.random.pick(&carriers);
+        let carrier = self.random.pick(&[
+            Carrier::Words,
+            Carrier::Rds,
+            Carrier::Fig,
+            Carrier::Fib,
+            Carrier::Drm,
+        ]);
         let messages = self.messages();
         let words = self.sent(carrier, &messages);
         let mut bursts = self.bursts(carrier, &words);
@@ -80,6 +90,11 @@ impl Trial {
                 Carrier::Fig,
                 "transmission: FIGs lost",
                 "transmission: an INTER-ROAD report of FIGs, others lost",
+            ),
+            (
+                Carrier::Fib,
+                "transmission: blocks lost",
+                "transmission: an INTER-ROAD report of blocks, others lost",
             ),
             (
                 Carrier::Drm,
@@ -148,6 +163,7 @@ impl Trial {
         let most = match carrier {
             Carrier::Words | Carrier::Rds => 1,
             Carrier::Fig => FIG_WORDS,
+            Carrier::Fib => FIB_WORDS,
             Carrier::Drm => self.random.pick(&[3, 8, UNIT_WORDS]),
         };
         let mut bursts = Vec::new();
@@ -227,6 +243,7 @@ impl Trial {
             _ if burst.lost => return,
             Carrier::Words => {}
             Carrier::Fig => self.deliver_fig(&words),
+            Carrier::Fib => self.deliver_fib(&words),
             Carrier::Drm => self.deliver_unit(&words),
         }
         for word in words {
@@ -272,6 +289,21 @@ impl Trial {
         let tcid = self.random.byte(3);
         let fig = Fig { d1: 0, tcid };
         self.read_fig(&sender::fig(fig, words), FIG_WORDS, Some((fig, words)));
+    }
+
+    /// The block, with the words in one FIG or in two, reads as its words.
+    fn deliver_fib(&mut self, words: &[u64]) {
+        let at = self.random.index(words.len());
+        let parts = [&words[..at], &words[at..]];
+        let parts = parts.iter().filter(|part| !part.is_empty());
+        let figs: Vec<_> = parts
+            .map(|part| {
+                let tcid = self.random.byte(3);
+                SentFig::words(Fig { d1: 0, tcid }, part)
+            })
+            .collect();
+        let rooms = (FIB_WORDS, FIB_WORDS);
+        self.read_figs(&blocks::block(&figs, &[MARKER]), rooms, &figs);
     }
 
     /// The data unit reads as its words.

@@ -37,6 +37,20 @@ mod c {
             out: *mut u8,
             out_len: usize,
         ) -> Written;
+        pub fn alertc_fib_read(
+            bytes: *const u8,
+            bytes_len: usize,
+            words: *mut u64,
+            words_len: usize,
+            origins: *mut u8,
+            origins_len: usize,
+        ) -> FibReading;
+        pub fn alertc_fib_write(
+            figs: *const u8,
+            figs_len: usize,
+            out: *mut u8,
+            out_len: usize,
+        ) -> Written;
         pub fn alertc_drm_read(
             bytes: *const u8,
             bytes_len: usize,
@@ -129,6 +143,23 @@ pub fn fig_write(fig: Fig, words: &[u64], out: &mut [u8]) -> Written {
             out.len(),
         )
     }
+}
+
+pub fn fib_read(bytes: &[u8], words: &mut [u64], origins: &mut [u8]) -> FibReading {
+    unsafe {
+        c::alertc_fib_read(
+            bytes.as_ptr(),
+            bytes.len(),
+            words.as_mut_ptr(),
+            words.len(),
+            origins.as_mut_ptr(),
+            origins.len(),
+        )
+    }
+}
+
+pub fn fib_write(figs: &[u8], out: &mut [u8]) -> Written {
+    unsafe { c::alertc_fib_write(figs.as_ptr(), figs.len(), out.as_mut_ptr(), out.len()) }
 }
 
 pub fn drm_read(bytes: &[u8], words: &mut [u64]) -> DrmReading {

@@ -161,6 +161,15 @@ values! {
         refusal: u8,
     }
 
+    /// How many words, and the FIG 5/1 whose refusal ended the reading: the byte at which it
+    /// begins, and its refusal; both 0 if none was refused.
+    FibReading, 24 {
+        count: usize,
+        fig_begin: usize,
+        fig_refusal: u8,
+        refusal: u8,
+    }
+
     /// What a data unit has beside its words; unused system words are 0.
     DrmUnit, 14 {
         tmchi: u8,
@@ -223,6 +232,7 @@ const _: () = {
     assert!(offset_of!(RdsReceived, word) == 16);
     assert!(offset_of!(RdsReceived, refusal) == 25);
     assert!(offset_of!(FigReading, refusal) == 10);
+    assert!(offset_of!(FibReading, refusal) == 17);
     assert!(offset_of!(DrmUnit, system_words) == 8);
     assert!(offset_of!(DrmReading, refusal) == 22);
     assert!(offset_of!(TableAnswer, refusal) == 25);

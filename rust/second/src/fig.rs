@@ -18,6 +18,18 @@ pub const MOST_SYSTEM_WORDS: usize = 14;
 const TYPE: u8 = 5;
 const EXTENSION: u8 = 1;
 
+/// The bytes of a FIG of any type by its first byte, which counts those after it in five bits.
+#[inline]
+pub const fn length(first: u8) -> usize {
+    1 + (first & 31) as usize
+}
+
+/// Whether a whole FIG of any type is a FIG 5/1.
+#[inline]
+pub fn is_5_1(fig: &[u8]) -> bool {
+    matches!(fig, [first, second, ..] if first >> 5 == TYPE && second & 7 == EXTENSION)
+}
+
 /// The header of a FIG 5/1.
 #[derive(Clone, Copy, Debug, PartialEq, Eq)]
 pub struct Fig {
@@ -37,6 +49,12 @@ impl Fig {
         }
     }
 
+    /// Both in one number: 8 times D1, and the TCId.
+    #[inline]
+    pub const fn origin(self) -> u8 {
+        (self.system as u8) << 3 | self.tcid
+    }
+
     /// Reads a FIG into `words`: its header and the number of words. Refuses, in this order,
     /// a total length (1), type (2), count (1), extension (2), D2 (3), data length (1),
     /// padding (3) and room (15).
@@ -47,8 +65,7 @@ impl Fig {
             Refusal::Length,
         )?;
         require(bytes[0] >> 5 == TYPE, Refusal::Other)?;
-        let count = usize::from(bytes[0] & 31);
-        require(count == bytes.len() - 1, Refusal::Length)?;
+        require(length(bytes[0]) == bytes.len(), Refusal::Length)?;
         require(bytes[1] & 7 == EXTENSION, Refusal::Other)?;
         require(bytes[1] & 0x40 == 0, Refusal::Reserved)?;
         let fig = Self {
@@ -97,11 +114,11 @@ impl Fig {
 }
 
 #[cfg(test)]
-mod tests {
+pub(crate) mod tests {
     use super::*;
 
-    const WORDS: [u64; 2] = [0x02_8991_01F4, 0x02_4350_2000];
-    const BYTES: [u8; 12] = [
+    pub(crate) const WORDS: [u64; 2] = [0x02_8991_01F4, 0x02_4350_2000];
+    pub(crate) const BYTES: [u8; 12] = [
         0xAB, 0x09, 0x14, 0x4C, 0x88, 0x0F, 0xA0, 0x90, 0xD4, 0x08, 0x00, 0x00,
     ];
     const FIG: Fig = Fig {

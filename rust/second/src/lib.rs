@@ -2,7 +2,8 @@
 //! points of docs/DECISIONS.md without a look at the proved code.
 //!
 //! Bytes go through a carrier ([`rds`], [`fig`], [`drm`]) to 37-bit [`word`]s, through the
-//! [`assembler`] to a [`report`], and from there into the message [`table`].
+//! [`assembler`] to a [`report`], and from there into the message [`table`]. FIGs come alone or in
+//! a block ([`fib`]).
 
 #![deny(warnings)]
 #![forbid(unsafe_code)]
@@ -12,6 +13,8 @@ pub mod clock;
 pub mod content;
 pub mod crc;
 pub mod drm;
+pub mod fib;
+pub mod fib_write;
 pub mod fig;
 pub mod inter_road;
 pub mod rds;

@@ -1,18 +1,15 @@
 -- The checks of the block, and then the walk over its FIGs.
-use Prim.Native.Nat.{ℕ, _≤_, _<_}
+use Prim.Native.Nat.{_≤_}
 use native.Mathlib.Omega.{arith}
-use mathlib.Core.Path.{_≡_, sym, ap, ap₂, _∙_}
+use mathlib.Core.Path.{_≡_, sym, ap, _∙_}
 use mathlib.Core.List.{List}
 use lib.ListN.{length, take}
 use lib.Seq.{length-take-le}
 use borrow.Author.Needs.{needs}
-use Rattle.crc.specs.Block.{payload}
-use Rattle.fib.specs.declared.Fib.{Fib}
 use Rattle.fib.specs.declared.Reading.the-variants.{Refused}
-use Rattle.fib.specs.Format.{unread}
 use Rattle.fib.specs.Walk.{Carried, Walk}
-use Rattle.fib.specs.Read.{blockRefusal, blockWalk, roomIn, originOf, cellsAfter}
-use Rattle.fib.proofs.Walking.{answer, over}
+use Rattle.fib.specs.Read.{blockRefusal, blockWalk, ending, roomIn, originOf, cellsAfter}
+use Rattle.fib.proofs.Walking.{over}
 use Rattle.fib.proofs.Blocks.{data-field, block-length, block-read, block-words, block-refused, cells-kept}
 use Rattle.fib.proofs.Fib.read.Statement.{statement}
 use Rattle.fib.proofs.Fib.read.Tie as tie
@@ -26,29 +23,20 @@ long c = block-length (c .before .before .before .before .before .args .s .now) 
 
 slice-aggregate-walk : tie.Need-slice-aggregate-walk
 slice-aggregate-walk c =
-    let s = c .before .before .before .before .before .before .before .args .s .now in
-    let enough : 30 ≤ length s = omega (arith, long (c .before .before)) in
+    let s = c .before .before .before .before .before .before .args .s .now in
+    let enough : 30 ≤ length s = omega (arith, long (c .before)) in
     sym (length-take-le 30 s enough)
-
-walk-requires : tie.Need-walk-requires
-walk-requires c κs =
-    let a = c .before .before .before .before .before .before .before .before .before .args in
-    let enough : 30 ≤ length (a .s .now) = omega (arith, long (c .before .before .before .before)) in
-    let new = c .before .before .before .new .ensures in
-    (omega (arith, length-take-le 30 (a .s .now) enough, ap (λ (f : Fib). f .at) new), omega (arith, c .before .before .before .before .before .before .before .before .before .good .1 .0 .0, ap (λ (f : Fib). f .count) new))
 
 returns : tie.Need-returns
 returns c =
-    let a = c .before .before .before .before .before .before .before .before .before .before .before .before .before .before .args in
+    let a = c .before .before .before .before .before .before .before .before .before .before .before .before .before .args in
     let s = a .s .now in
     let room = roomIn (a .words .now) (a .origins .now) in
     let call = c .before .before .before .before .walk .ensures in
-    let fib = c .before .before .before .before .before .before .before .before .new .result in
-    let new = c .before .before .before .before .before .before .before .before .new .ensures in
-    let ok = passes (c .before .before .before .before .before .before .before .before .before) in
-    let walked : over (fib .at) room (take 30 s) ≡ blockWalk s room = ap₂ (λ (f : Fib) (l : List ℕ). over (f .at) room l) new (data-field s (long (c .before .before .before .before .before .before .before .before .before))) in
+    let ok = passes (c .before .before .before .before .before .before .before .before) in
+    let walked : over 0 room (take 30 s) ≡ blockWalk s room = ap (over 0 room) (data-field s (long (c .before .before .before .before .before .before .before .before))) in
     let found = ap (λ (w : Walk). w .found) walked ∙ sym (block-words s room ok) in (
-      call .0 ∙ ap₂ (λ (f : Fib) (w : Walk). answer (f .count) w) new walked ∙ block-read s room ok,
+      call .0 ∙ ap ending walked ∙ sym (block-read s room ok),
       (
         call .1 .0 ∙ ap (λ (cs : List Carried). cellsAfter (λ w. w .word) cs (a .words .now)) found,
         call .1 .1 ∙ ap (λ (cs : List Carried). cellsAfter (λ w. originOf (w .fig)) cs (a .origins .now)) found,
@@ -67,14 +55,4 @@ returns-2 c =
     )
 
 pub read-spec : {M : Type 1} → statement M
-read-spec =
-    tie.close
-    (tie.spec
-    (search needs)
-    (search needs)
-    slice-aggregate-walk
-    walk-requires
-    (search needs)
-    (search needs)
-    returns
-    returns-2)
+read-spec = tie.close (tie.spec (search needs) slice-aggregate-walk (search needs) (search needs) (search needs) returns returns-2)
