@@ -9,3 +9,4 @@ pub mod Replacing
 pub mod InBytes
 pub mod Runs
 pub mod Outcomes
+pub mod Writers

@@ -13,6 +13,7 @@ use Rattle.bits.specs.Bits.{bits, allZero}
 use Rattle.bits.specs.Fields.{flat, words}
 use Rattle.bits.specs.Checks.{must, unless}
 use Rattle.bits.proofs.Choice.{chosen, passed-over}
+use Rattle.bits.proofs.Writers.{written-passed}
 use Rattle.bits.proofs.Value.{length-bits, zero-bits}
 use Rattle.bits.proofs.Fields.{length-flat, length-words, flat-words, words-front}
 use Rattle.bits.proofs.Checks.{second, last-check}
@@ -22,7 +23,6 @@ use Rattle.assembler.specs.declared.Assembler.the-variants.{Empty}
 use Rattle.drm.specs.declared.DataUnit.{DataUnit}
 use Rattle.drm.specs.declared.Reading.{Reading}
 use Rattle.drm.specs.declared.Reading.the-variants.{Taken, Refused}
-use Rattle.bits.specs.declared.Writing.the-variants as writing
 use Rattle.bits.specs.declared.Writing.the-variants.{Written}
 use Rattle.drm.specs.Payload.{start, aid, header, wordsAt, countFrom, padding}
 use Rattle.drm.specs.Read.{fieldRefusal, wordsRefusal, payloadRefusal, unitRefusal, taken, readUnit, wordsAfter}
@@ -174,20 +174,7 @@ module _ (u : DataUnit) (ws : List ℕ) (typed : Typed u) (fit : unitFits u (len
 -- what is written may be written, and n is its length
 pub written-can : (u : DataUnit) (ws : List ℕ) (room n : ℕ) → writeUnit u ws room ≡ Written n → (canWrite u ws ≡ true) × (unitLength u (length ws) ≡ n)
 unfolding writeUnit
-written-can u ws room n e = by-tests (canWrite u ws) (leb (unitLength u (length ws)) room) refl refl
-  where
-    by-tests : (t v : Bool) → canWrite u ws ≡ t → leb (unitLength u (length ws)) room ≡ v → (canWrite u ws ≡ true) × (unitLength u (length ws) ≡ n)
-    by-tests true true f r =
-        let k : Written (unitLength u (length ws)) ≡ Written n = sym (chosen _ _ _ f ∙ chosen _ _ _ r) ∙ e in
-        (f, cc)
-    by-tests true false f r =
-        let k : writing.Refused 15 ≡ Written n = sym (chosen _ _ _ f ∙ passed-over _ _ _ r) ∙ e in
-        let z : _≡_ {A = ℕ} 0 1 = cc in
-        absurd (omega arith)
-    by-tests false v f r =
-        let k : writing.Refused 9 ≡ Written n = sym (passed-over _ _ _ f) ∙ e in
-        let z : _≡_ {A = ℕ} 0 1 = cc in
-        absurd (omega arith)
+written-can u ws room n e = written-passed (canWrite u ws) (leb (unitLength u (length ws)) room) (unitLength u (length ws)) n 15 9 e
 
 -- the k cells that a call wrote, read into other cells
 pub way-back : (u : DataUnit) (ws out lent : List ℕ) (k : ℕ) → Typed u → writeUnit u ws (length out) ≡ Written k → length ws ≤ length lent

@@ -2,15 +2,16 @@
 use Prim.Native.Nat.{ℕ, zero, suc, _+_, _-_, _≤_}
 use native.Mathlib.Omega.{arith}
 use mathlib.Core.Path.{_≡_, refl, sym, ap, _∙_}
-use mathlib.Core.Bool.{Bool, true, false}
+use mathlib.Core.Bool.{true}
 use mathlib.Core.List.{List, [], _++_, append-nil}
 use lib.ListN.{length, take, drop}
 use lib.Seq.{take-append-add, take-at, drop-length}
 use lib.Dec.{leb, eqb}
 use borrow.Author.Tests.{leb-true, eqb-true, eq-eqb}
 use Rattle.bits.specs.Lists.{joined}
-use Rattle.bits.specs.declared.Writing.the-variants.{Written, Refused}
-use Rattle.bits.proofs.Choice.{and-left, and-right, chosen, passed-over}
+use Rattle.bits.specs.declared.Writing.the-variants.{Written}
+use Rattle.bits.proofs.Choice.{and-left, and-right, chosen}
+use Rattle.bits.proofs.Writers.{written-passed}
 use Rattle.crc.specs.Block.{payload}
 use Rattle.crc.proofs.Blocks.{length-checked, payload-checked, checked-holds}
 use Rattle.fib.specs.Figs.{ended, figs, rest}
@@ -84,18 +85,7 @@ module _ (s : List ℕ) (whole : areWhole s ≡ true) where
 -- what is written are whole FIGs, and n the bytes of a block
 written-whole : (s : List ℕ) (room n : ℕ) → writeBlock s room ≡ Written n → (areWhole s ≡ true) × (_≡_ {A = ℕ} 32 n)
 unfolding writeBlock
-written-whole s room n e = by-tests (areWhole s) (leb 32 room) refl refl
-  where
-    by-tests : (t u : Bool) → areWhole s ≡ t → leb 32 room ≡ u → (areWhole s ≡ true) × (_≡_ {A = ℕ} 32 n)
-    by-tests true true f r = let k : Written 32 ≡ Written n = sym (chosen _ _ _ f ∙ chosen _ _ _ r) ∙ e in (f, cc)
-    by-tests true false f r =
-        let k : Refused 15 ≡ Written n = sym (chosen _ _ _ f ∙ passed-over _ _ _ r) ∙ e in
-        let z : _≡_ {A = ℕ} 0 1 = cc in
-        absurd (omega arith)
-    by-tests false u f r =
-        let k : Refused 9 ≡ Written n = sym (passed-over _ _ _ f) ∙ e in
-        let z : _≡_ {A = ℕ} 0 1 = cc in
-        absurd (omega arith)
+written-whole s room n e = written-passed (areWhole s) (leb 32 room) 32 n 15 9 e
 
 -- the n cells that a call wrote are the block
 pub written-is : (s out : List ℕ) (n : ℕ) → writeBlock s (length out) ≡ Written n → (areWhole s ≡ true) × (take n (bytesAfter (Written n) s out) ≡ blockBytes s)

@@ -1,7 +1,7 @@
 -- A FIG is written exactly if it is in range and there is room. Here w is the width that the code has found.
 use Prim.Native.Nat.{ℕ, _+_, _-_, _≤_, _<_}
 use native.Mathlib.Omega.{arith}
-use mathlib.Core.Path.{_≡_, refl, sym, ap, ap₂, _∙_}
+use mathlib.Core.Path.{_≡_, sym, ap, ap₂, _∙_}
 use mathlib.Core.Bool.{Bool, true, false}
 use mathlib.Core.List.{List, _++_}
 use lib.ListN.{length, take, drop}
@@ -11,6 +11,7 @@ use borrow.Author.Tests.{le-leb, lt-leb}
 use Rattle.bits.specs.Bits.{bits, val}
 use Rattle.bits.specs.Fields.{words, pack}
 use Rattle.bits.proofs.Choice.{chosen, passed-over}
+use Rattle.bits.proofs.Writers.{written-passed}
 use Rattle.bits.proofs.Value.{bits-val}
 use Rattle.bits.proofs.Formats.{length-pack}
 use Rattle.fig.specs.declared.Fig.{Fig}
@@ -54,15 +55,4 @@ unfit fig ws room f = sym (passed-over _ _ _ f)
 -- what is written is in range, and n is its length
 pub written-fits : (fig : Fig) (ws : List ℕ) (room n : ℕ) → writeFig fig ws room ≡ Written n → (figFits fig ws ≡ true) × (figLength fig (length ws) ≡ n)
 unfolding writeFig
-written-fits fig ws room n e = by-tests (figFits fig ws) (leb (figLength fig (length ws)) room) refl refl
-  where
-    by-tests : (t u : Bool) → figFits fig ws ≡ t → leb (figLength fig (length ws)) room ≡ u → (figFits fig ws ≡ true) × (figLength fig (length ws) ≡ n)
-    by-tests true true f r = let k : Written (figLength fig (length ws)) ≡ Written n = sym (chosen _ _ _ f ∙ chosen _ _ _ r) ∙ e in (f, cc)
-    by-tests true false f r =
-        let k : Refused 15 ≡ Written n = sym (chosen _ _ _ f ∙ passed-over _ _ _ r) ∙ e in
-        let z : _≡_ {A = ℕ} 0 1 = cc in
-        absurd (omega arith)
-    by-tests false u f r =
-        let k : Refused 9 ≡ Written n = sym (passed-over _ _ _ f) ∙ e in
-        let z : _≡_ {A = ℕ} 0 1 = cc in
-        absurd (omega arith)
+written-fits fig ws room n e = written-passed (figFits fig ws) (leb (figLength fig (length ws)) room) (figLength fig (length ws)) n 15 9 e
