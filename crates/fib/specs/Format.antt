@@ -1,4 +1,4 @@
--- A Fast Information Block (document 02, R-2; source 000, clause 4.1; EN 300 401, 5.2.1): a data field of 30 bytes, which holds FIGs, and
+-- A Fast Information Block (document 02, R-2; source 000, clause 3.1; EN 300 401, 5.2.1): a data field of 30 bytes, which holds FIGs, and
 -- a check word of two.
 use Prim.Native.Nat.{ℕ}
 use Rattle.fib.specs.declared.Fib.{Fib}
