@@ -90,8 +90,8 @@ first-sixteen k r t =
     (entered-high l 0 r (ap (λ (n : ℕ). n + 0) (length-bits 16 (t / 2 ^ k)))
     ∙ ap₂ (λ (v n : ℕ). entered (bitXor r v) (replicate n false)) (mul-one (val l) ∙ val-bits 16 (t / 2 ^ k)) (length-bits 16 (t / 2 ^ k)))
 
-joined : (k r t : ℕ) → r < 2 ^ 16 → entered r (bits (16 + k) t) ≡ entered 0 (bits (16 + k) (bitXor t (r * 2 ^ k)))
-joined k r t h =
+register-joins : (k r t : ℕ) → r < 2 ^ 16 → entered r (bits (16 + k) t) ≡ entered 0 (bits (16 + k) (bitXor t (r * 2 ^ k)))
+register-joins k r t h =
     let u = bitXor t (r * 2 ^ k) in
     let high : u / 2 ^ k % 2 ^ 16 ≡ bitXor r (t / 2 ^ k % 2 ^ 16) = rw (xor-shr, shl-shr, xor-mod, mod-eq-of-lt h) (xor-comm (t / 2 ^ k % 2 ^ 16) r) in
     let rest : u % 2 ^ k ≡ t % 2 ^ k = rw (xor-mod, mul-mod-left) (xor-zero-r (t % 2 ^ k)) in
@@ -103,7 +103,7 @@ pub eight-step : (r t : ℕ) → r < 2 ^ 16 → t < 2 ^ 64 → divided (bitXor t
 unfolding after
 eight-step r t h k =
     let u = bitXor t (r * 2 ^ 48) in
-    equal-below divided-linear (after-linear 8) 64 u powers-right (xor-lt 64 t (r * 2 ^ 48) k (shl-lt 16 48 h)) ∙ sym (joined 48 r t h)
+    equal-below divided-linear (after-linear 8) 64 u powers-right (xor-lt 64 t (r * 2 ^ 48) k (shl-lt 16 48 h)) ∙ sym (register-joins 48 r t h)
 
 -- eight bytes more
 pub eight-more : (s : List ℕ) (i r : ℕ) → i + 8 ≤ length s

@@ -1,6 +1,7 @@
 -- A block that is refused, and one that is not.
 use Prim.Native.Nat.{ℕ, _-_}
 use mathlib.Core.Path.{_≡_, sym, ap, _∙_}
+use mathlib.Core.Bool.{true}
 use mathlib.Core.List.{List, []}
 use lib.ListN.{length, take}
 use lib.Dec.{eqb}
@@ -18,6 +19,14 @@ use Rattle.fib.proofs.Walking.{cells-none}
 -- the bytes before the check word
 pub data-field : (s : List ℕ) → length s ≡ 32 → take 30 s ≡ payload s
 data-field s e = ap (λ (n : ℕ). take (n - 2) s) (sym e)
+
+-- with this length and a check word that is right, only the FIGs are left to refuse
+pub figs-left : (s : List ℕ) → length s ≡ 32 → isChecked s ≡ true → blockRefusal s ≡ must (ended (rest (take 30 s))) 1 0
+unfolding blockRefusal
+figs-left s e h =
+    chosen _ _ _ (eq-eqb (length s) 32 e)
+    ∙ chosen _ _ _ h
+    ∙ ap (λ (l : List ℕ). must (ended (rest l)) 1 0) (sym (data-field s e))
 
 module _ (s : List ℕ) (room : ℕ) where
   module _ (e : blockRefusal s ≡ 0) where

@@ -45,6 +45,10 @@ readWords s room = cond (eqb (blockRefusal s) 0) (blockWalk s room .found) []
 abbrev pub roomIn : List ℕ → List ℕ → ℕ
 roomIn words origins = min (length words) (length origins)
 
+-- the walk over the FIGs of a data field, into two buffers
+abbrev pub walkInto : List ℕ → List ℕ → List ℕ → Walk
+walkInto field words origins = walkFrom 0 (roomIn words origins) (figs field)
+
 -- D1 and TCId as one number
 abbrev pub originOf : Fig → ℕ
 originOf fig = fig .d1 * 8 + fig .tcid

@@ -3,9 +3,9 @@ ghost use mathlib.Core.Path.{_≡_};
 ghost use Prim.Native.Nat.{_<_, min};
 ghost use lib.ListN.{length, replicate};
 ghost use Rattle.fig.specs.Read.{readFig};
-ghost use Rattle.fib.specs.Figs.{ended, figs, rest};
-ghost use Rattle.fib.specs.Walk.{isTmc, carried, readOne, walkFrom};
-ghost use Rattle.fib.specs.Read.{blockRefusal, ending, readBlock, readWords, roomIn, originOf, wordsAfter, originsAfter};
+ghost use Rattle.fib.specs.Figs.{ended, rest};
+ghost use Rattle.fib.specs.Walk.{isTmc, carried, readOne};
+ghost use Rattle.fib.specs.Read.{blockRefusal, ending, readBlock, readWords, roomIn, walkInto, originOf, wordsAfter, originsAfter};
 ghost use Rattle.fib.specs.Parts.{partOf, given};
 use crate::Fib;
 use crate::Reading;
@@ -42,9 +42,9 @@ impl Fib {
 
 // Reads the FIGs of a data field in order, each into what the ones before it left of the buffers.
 fn walk(s: &[u8], words: &mut [u64], origins: &mut [u8]) -> Reading
-    ensures { λ r. ⌜ r ≡ ending (walkFrom 0 (roomIn (now (words .entry)) (now (origins .entry))) (figs (now (s .entry)))) ⌝ }
-    ensures { λ _. ⌜ now (words .exit) ≡ wordsAfter (walkFrom 0 (roomIn (now (words .entry)) (now (origins .entry))) (figs (now (s .entry))) .found) (now (words .entry)) ⌝ }
-    ensures { λ _. ⌜ now (origins .exit) ≡ originsAfter (walkFrom 0 (roomIn (now (words .entry)) (now (origins .entry))) (figs (now (s .entry))) .found) (now (origins .entry)) ⌝ }
+    ensures { λ r. ⌜ r ≡ ending (walkInto (now (s .entry)) (now (words .entry)) (now (origins .entry))) ⌝ }
+    ensures { λ _. ⌜ now (words .exit) ≡ wordsAfter (walkInto (now (s .entry)) (now (words .entry)) (now (origins .entry)) .found) (now (words .entry)) ⌝ }
+    ensures { λ _. ⌜ now (origins .exit) ≡ originsAfter (walkInto (now (s .entry)) (now (words .entry)) (now (origins .entry)) .found) (now (origins .entry)) ⌝ }
 {
     let mut fib = Fib::new();
     loop {
@@ -136,6 +136,7 @@ fn read_tmc(f: &[u8], words: &mut [u64], origins: &mut [u8]) -> Part
     }
 }
 
+// The smaller of two numbers.
 fn shorter(a: usize, b: usize) -> usize
     ensures { λ r. ⌜ r ≡ min a b ⌝ }
 {
