@@ -1,7 +1,7 @@
-// A short slice of bytes as one number, and back.
+// A short slice of bytes as one number, and back; and a slice filled.
 ghost use mathlib.Core.Path.{_≡_};
 ghost use Prim.Native.Nat.{_*_, _≤_, _<_, _^_};
-ghost use lib.ListN.{length};
+ghost use lib.ListN.{length, replicate};
 ghost use Rattle.bits.specs.Bits.{bits, val};
 ghost use Rattle.bits.specs.Fields.{flat, words};
 
@@ -42,6 +42,17 @@ pub fn store(s: &mut [u8], v: u64)
         i -= 1;
         s[i] = (rest % 256) as u8;
         rest = rest / 256;
+    }
+}
+
+// Sets every byte to v.
+pub fn fill(s: &mut [u8], v: u8)
+    ensures { λ _. ⌜ now (s .exit) ≡ replicate (length (now (s .entry))) v ⌝ }
+{
+    let mut i = 0;
+    while i < s.len() {
+        s[i] = v;
+        i += 1;
     }
 }
 

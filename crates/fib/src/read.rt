@@ -1,7 +1,6 @@
 // A block read: the checks of the whole block, and then its FIGs in order.
 ghost use mathlib.Core.Path.{_≡_};
 ghost use Prim.Native.Nat.{_<_, min};
-ghost use lib.ListN.{length, replicate};
 ghost use Rattle.fig.specs.Read.{readFig};
 ghost use Rattle.fib.specs.Figs.{ended, rest};
 ghost use Rattle.fib.specs.Walk.{isTmc, carried, readOne};
@@ -11,6 +10,7 @@ use crate::Fib;
 use crate::Reading;
 use crate::figs::figs_length;
 use crate::figs::first_length;
+use bits::bytes::fill;
 use bits::bytes::load;
 use crc::block::is_checked;
 use fig::Fig;
@@ -149,15 +149,4 @@ fn origin(fig: Fig) -> u8
     ensures { λ r. ⌜ r ≡ originOf fig ⌝ }
 {
     fig.d1 * Fig::SERVICES + fig.tcid
-}
-
-// Fills a row with a number.
-fn fill(row: &mut [u8], v: u8)
-    ensures { λ _. ⌜ now (row .exit) ≡ replicate (length (now (row .entry))) v ⌝ }
-{
-    let mut i = 0;
-    while i < row.len() {
-        row[i] = v;
-        i += 1;
-    }
 }

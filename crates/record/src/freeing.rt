@@ -11,6 +11,7 @@ use crate::Record;
 use crate::Service;
 use crate::fields::expiry;
 use crate::fields::two;
+use bits::bytes::fill;
 use clock::Utc;
 use location::Location;
 
@@ -105,9 +106,5 @@ fn clear(r: &mut [u8])
     requires { ⌜ length (now r) ≡ recordSize ⌝ }
     ensures { λ _. ⌜ now (r .exit) ≡ freeRecord ⌝ }
 {
-    let mut i = 0;
-    while i < r.len() {
-        r[i] = 0;
-        i += 1;
-    }
+    fill(r, 0);
 }
