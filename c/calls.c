@@ -1003,8 +1003,12 @@ static void drm(void) {
     SAME(alertc_drm_read(headed, 7, words, ALERTC_DRM_UNIT_WORDS).refusal, ALERTC_REFUSED_LENGTH);
     REST_UNTOUCHED(words, 0);
 
-    SAME(alertc_check_word((const uint8_t *)"123456789", 9),
-         0xD64E); /* published (CRC-16/GENIBUS) */
+    /* The first is published (CRC-16/GENIBUS), the others are the rules' computed cases. */
+    SAME(alertc_check_word((const uint8_t *)"123456789", 9), 0xD64E);
+    SAME(alertc_check_word((const uint8_t *)"", 0), 0x0000);
+    SAME(alertc_check_word((const uint8_t *)"1", 1), 0x387D);
+    SAME(alertc_check_word((const uint8_t *)"\0", 1), 0x1E0F);
+    SAME(alertc_check_word((const uint8_t *)"\xFF\xFF", 2), 0xFFFF);
 }
 
 enum { PLACES = 2 };

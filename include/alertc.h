@@ -48,8 +48,8 @@ extern "C" {
 /* The version of this interface: the first number changes when a caller must change. */
 #define ALERTC_VERSION_MAJOR 4
 #define ALERTC_VERSION_MINOR 1
-#define ALERTC_VERSION_PATCH 0
-#define ALERTC_VERSION "4.1.0"
+#define ALERTC_VERSION_PATCH 1
+#define ALERTC_VERSION "4.1.1"
 
 /* ---- Refusals ---- */
 

@@ -1,21 +1,16 @@
-// The check word over whole bytes, eight at a time and then one at a time, and blocks that end with it.
+// The check word: a register of 16 stages, 0 to 15, which the bits enter one at a time; and blocks that end with it.
 ghost use mathlib.Core.Path.{_≡_};
-ghost use mathlib.Core.Bool.{false};
-ghost use Prim.Native.Nat.{_*_, _<_};
-ghost use lib.ListN.{replicate};
 ghost use Rattle.bits.specs.Bits.{bits};
-ghost use Rattle.crc.specs.Register.{entered, checkWord};
-use eight::with_eights;
+ghost use Rattle.crc.specs.Register.{shifted, entered, checkWord};
 
 pub mod block;
-mod eight;
 
-// The check word of some bytes, the highest bit of each first.
+// The check word of some bytes: all stages are one at the start, and the register is inverted at the end.
 pub fn check_word(s: &[u8]) -> u16
     ensures { λ r. ⌜ r ≡ checkWord (now (s .entry)) ⌝ }
 {
-    let mut i = s.len() / 8 * 8;
-    let mut register = with_eights(0xFFFF, &s[..i]);
+    let mut register = 0xFFFF;
+    let mut i = 0;
     while i < s.len() {
         register = with_byte(register, s[i]);
         i += 1;
@@ -23,18 +18,23 @@ pub fn check_word(s: &[u8]) -> u16
     register ^ 0xFFFF
 }
 
-// The register after the eight bits of a byte: its low half moves up, and its high half and the byte become a remainder.
-fn with_byte(register: u16, byte: u8) -> u16
+// The register after the eight bits of a byte, the highest first.
+fn with_byte(mut register: u16, byte: u8) -> u16
     ensures { λ r. ⌜ r ≡ entered register (bits 8 byte) ⌝ }
 {
-    remainder((register / 0x100) ^ (byte as u16)) ^ (register % 0x100 * 0x100)
+    let mut left = 8u8;
+    while 0 < left {
+        left -= 1;
+        register = step(register, (byte >> left) % 2 == 1);
+    }
+    register
 }
 
-// What eight zero bits make of a register whose high half is x and whose low half is 0.
-fn remainder(x: u16) -> u16
-    requires { ⌜ x < 256 ⌝ }
-    ensures { λ r. ⌜ r ≡ entered (x * 256) (replicate 8 false) ⌝ }
+// The register after one bit: the feedback is stage 15 xor the bit; the stages move up by one, and the feedback enters stages 0, 5 and 12.
+fn step(register: u16, bit: bool) -> u16
+    ensures { λ r. ⌜ r ≡ shifted register bit ⌝ }
 {
-    let y = x ^ (x / 16);
-    (y % 16 * 0x1000) ^ (y * 0x20) ^ y
+    let feedback = (register >> 15) ^ (bit as u16);
+    let taps = feedback ^ (feedback << 5) ^ (feedback << 12);
+    (register << 1) ^ taps
 }

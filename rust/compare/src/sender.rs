@@ -79,8 +79,8 @@ pub fn check_word(bytes: &[u8]) -> u16 {
     let mut register = 0xFFFF_u16;
     for i in 0..8 * bytes.len() {
         let bit = u16::from(bytes[i / 8] >> (7 - i % 8) & 1);
-        let carry = register >> 15 ^ bit;
-        register = (register << 1) ^ (carry * 0x1021);
+        let feedback = register >> 15 ^ bit;
+        register = (register << 1) ^ (feedback * 0x1021);
     }
     !register
 }

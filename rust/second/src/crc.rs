@@ -90,7 +90,10 @@ mod tests {
     }
 
     #[test]
-    fn no_bytes() {
-        assert_eq!(crc(b""), 0);
+    fn computed_cases() {
+        assert_eq!(crc(b""), 0x0000);
+        assert_eq!(crc(b"1"), 0x387D);
+        assert_eq!(crc(&[0x00]), 0x1E0F);
+        assert_eq!(crc(&[0xFF, 0xFF]), 0xFFFF);
     }
 }
