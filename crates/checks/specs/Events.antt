@@ -5,18 +5,18 @@ use lib.IntN.{ℤ}
 use lib.ListN.{getD}
 use Rattle.report.specs.declared.Report.{Report}
 use Rattle.clock.specs.Time.{expiryOf}
-use Rattle.lent.specs.Catalogue.{classOf, kindOf, typeOf}
+use Rattle.lent.specs.Catalogue.{entryAt, classOf, kindOf, typeOf}
 use Rattle.checks.specs.declared.Arrival.{Arrival}
 
 -- the entry of its first event
 abbrev pub entryFor : List ℕ → Report → ℕ
-entryFor catalogue r = getD catalogue (r .head .event) 0
+entryFor catalogue r = entryAt catalogue (r .head .event)
 
 -- its kind
 abbrev pub kindFor : List ℕ → Report → ℕ
 kindFor catalogue r = kindOf (entryFor catalogue r)
 
--- the update class that it is matched and stored by
+-- its update class, which a record keeps
 abbrev pub classFor : List ℕ → Report → ℕ
 classFor catalogue r = classOf (entryFor catalogue r)
 

@@ -6,6 +6,7 @@ use clock::offset_fits;
 use lent::catalogue::Entry;
 use lent::lent_fit;
 use location::Location;
+use matching::test::all_classed;
 use record::Service;
 use report::Report;
 
@@ -23,13 +24,16 @@ pub fn check(t: &[u8], catalogue: &[u16], lives: &[u16], last: Utc, arrival: Arr
     if !lent_fit(t, catalogue, lives) {
         return 10;
     }
+    if !all_classed(t, catalogue) {
+        return 10;
+    }
     let report = arrival.report;
     let service = arrival.service;
     if !asked_fit(report, service, lto) {
         return 9;
     }
     let head = report.head;
-    let entry = Entry(catalogue[head.event as usize]);
+    let entry = Entry::of_event(catalogue, head.event);
     let minute = arrival.minute;
     let location = service.location_of(report);
     later_refusal(last, minute, location.code, entry.kind())

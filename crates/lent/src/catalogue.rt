@@ -1,6 +1,6 @@
 // Whether a catalogue is well-formed, and what an entry of it says.
 ghost use mathlib.Core.Path.{_≡_};
-ghost use Rattle.lent.specs.Catalogue.{classOf, kindOf, typeOf, entryFits, catalogueFits};
+ghost use Rattle.lent.specs.Catalogue.{entryAt, classOf, kindOf, hasClass, typeOf, entryFits, catalogueFits};
 use crate::Lent;
 
 // An entry of a catalogue.
@@ -28,6 +28,18 @@ impl Entry {
 
     const LIMIT: u16 = Self::TYPE * Self::TYPES;
 
+    // The entry of an event; where the catalogue has none, that of an unknown event.
+    pub fn of_event(catalogue: &[u16], event: u16) -> Self
+        ensures { λ x. ⌜ x .0 ≡ entryAt (now (catalogue .entry)) event ⌝ }
+    {
+        let at = event as usize;
+        if at < catalogue.len() {
+            Entry(catalogue[at])
+        } else {
+            Entry(0)
+        }
+    }
+
     // The update class, 0 for none.
     pub fn class(self) -> u8
         ensures { λ n. ⌜ n ≡ classOf (self .0) ⌝ }
@@ -41,6 +53,14 @@ impl Entry {
         self.0 / Self::CLASSES % Self::KINDS
     }
 
+    // Whether the event has an update class: if it is ordinary or cancelling.
+    pub fn has_class(self) -> bool
+        ensures { λ b. ⌜ b ≡ hasClass (self .0) ⌝ }
+    {
+        let kind = self.kind();
+        (kind == Self::ORDINARY) | (kind == Self::CANCELLING)
+    }
+
     pub fn duration_type(self) -> u16
         ensures { λ n. ⌜ n ≡ typeOf (self .0) ⌝ }
     {
@@ -51,9 +71,7 @@ impl Entry {
     pub fn fits(self) -> bool
         ensures { λ b. ⌜ b ≡ entryFits (self .0) ⌝ }
     {
-        let kind = self.kind();
-        (self.0 < Self::LIMIT)
-            & ((self.class() != 0) == ((kind == Self::ORDINARY) | (kind == Self::CANCELLING)))
+        (self.0 < Self::LIMIT) & ((self.class() != 0) == self.has_class())
     }
 }
 

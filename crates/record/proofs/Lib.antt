@@ -4,4 +4,5 @@ pub mod Ranges
 pub mod Zeros
 pub mod Tested
 pub mod Steps
+pub mod ClassSets
 pub mod FreeFits

@@ -3,5 +3,6 @@ pub mod Locations
 pub mod Layout
 pub mod WellFormed
 pub mod Zeros
-pub mod Matching
+pub mod Classes
+pub mod Keys
 pub mod Gone

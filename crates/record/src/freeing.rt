@@ -1,19 +1,13 @@
-// Freeing a record that has expired or that matches a report.
+// Freeing a record.
 ghost use mathlib.Core.Path.{_≡_};
 ghost use lib.ListN.{length};
 ghost use Rattle.bits.specs.Bits.{num};
-ghost use Rattle.record.specs.Layout.{recordSize, freeRecord, serviceIn, locationIn};
-ghost use Rattle.record.specs.Matching.{sameService, sameLocation, matching};
-ghost use Rattle.record.specs.Gone.{expired, either, onlySecond, freedIf, oneRecord};
-use crate::Freed;
-use crate::Key;
+ghost use Rattle.record.specs.Layout.{recordSize, freeRecord};
+ghost use Rattle.record.specs.Gone.{expired, freedIf, oneRecord};
 use crate::Record;
-use crate::Service;
 use crate::fields::expiry;
-use crate::fields::two;
 use bits::bytes::fill;
 use clock::Utc;
-use location::Location;
 
 // Frees the record if it has expired by the minute, and answers how many were freed. Leaves bytes that are not one record's.
 pub fn free_expired(r: &mut [u8], minute: Utc) -> usize
@@ -31,32 +25,6 @@ pub fn free_expired(r: &mut [u8], minute: Utc) -> usize
     }
 }
 
-// Frees the record if it has expired by the minute, and else if it matches; answers how many were freed by each. Leaves bytes that are not
-// one record's.
-pub fn free_gone(r: &mut [u8], minute: Utc, key: Key) -> Freed
-    ensures { λ f. ⌜ f ≡ record { expired = num (oneRecord (expired (minute .0)) (now (r .entry))); matched = num (oneRecord (onlySecond (expired (minute .0)) (matching key)) (now (r .entry))) } ⌝ }
-    ensures { λ _. ⌜ now (r .exit) ≡ freedIf (oneRecord (either (expired (minute .0)) (matching key))) (now (r .entry)) ⌝ }
-{
-    if r.len() != Record::SIZE {
-        return freed(0, 0);
-    }
-    if has_expired(r, minute) {
-        clear(r);
-        return freed(1, 0);
-    }
-    if matches(r, key) {
-        clear(r);
-        return freed(0, 1);
-    }
-    freed(0, 0)
-}
-
-fn freed(expired: usize, matched: usize) -> Freed
-    ensures { λ f. ⌜ f ≡ record { expired = expired; matched = matched } ⌝ }
-{
-    Freed { expired, matched }
-}
-
 // Whether the record is used and ends at or before the minute.
 fn has_expired(r: &[u8], minute: Utc) -> bool
     requires { ⌜ length (now r) ≡ recordSize ⌝ }
@@ -64,41 +32,6 @@ fn has_expired(r: &[u8], minute: Utc) -> bool
 {
     let end = expiry(r);
     (r[Record::MARK] != 0) & (end.0 <= minute.0)
-}
-
-// Whether the record is used and of the same service, location, direction and update class.
-fn matches(r: &[u8], key: Key) -> bool
-    requires { ⌜ length (now r) ≡ recordSize ⌝ }
-    ensures { λ b. ⌜ b ≡ matching key (now (r .entry)) ⌝ }
-{
-    let location = key.location;
-    if !same_location(r, location) {
-        return false;
-    }
-    let service = key.service;
-    let direction = key.direction;
-    (r[Record::MARK] != 0)
-        & (same_service(r, service)
-            & ((r[Record::DIRECTION] == direction) & (r[Record::CLASS] == key.class)))
-}
-
-// Whether the record's location is this one. The codes of most records differ, so they are compared first.
-fn same_location(r: &[u8], l: Location) -> bool
-    requires { ⌜ length (now r) ≡ recordSize ⌝ }
-    ensures { λ b. ⌜ b ≡ sameLocation (locationIn (now (r .entry))) l ⌝ }
-{
-    if two(r, Record::LOCATION) != l.code {
-        return false;
-    }
-    (r[Record::LOCATION_COUNTRY] == l.country) & (r[Record::LOCATION_LTN] == l.ltn)
-}
-
-// Whether the record's service is this one.
-fn same_service(r: &[u8], s: Service) -> bool
-    requires { ⌜ length (now r) ≡ recordSize ⌝ }
-    ensures { λ b. ⌜ b ≡ sameService (serviceIn (now (r .entry))) s ⌝ }
-{
-    (r[Record::COUNTRY] == s.country) & ((r[Record::LTN] == s.ltn) & (r[Record::SID] == s.sid))
 }
 
 // Sets every byte to zero.

@@ -2,11 +2,14 @@
 ghost use mathlib.Core.Path.{_≡_};
 ghost use Rattle.record.specs.Services.{serviceFits};
 
+pub mod classes;
 pub mod fields;
 pub mod freeing;
+pub mod keys;
 pub mod locations;
 pub mod test;
 
+use crate::classes::Classes;
 use location::Location;
 
 // A service: country, location table number and service identifier.
@@ -33,12 +36,12 @@ impl Service {
     }
 }
 
-// What a report is matched by: its service, location, direction and the update class of its first event.
+// What a report is matched by: its service, location, direction and the update classes of its events.
 pub struct Key {
     pub service: Service,
     pub location: Location,
     pub direction: u8,
-    pub class: u8,
+    pub classes: Classes,
 }
 
 // How many records a call freed as expired and as matching.

@@ -17,7 +17,7 @@ use Rattle.report.specs.Samples.{report401}
 use Rattle.record.specs.declared.Service.{Service}
 use Rattle.record.specs.declared.Key.{Key}
 use Rattle.record.specs.Locations.{locationOf}
-use Rattle.record.specs.Matching.{matching}
+use Rattle.record.specs.Keys.{alike}
 use Rattle.record_report.specs.Made.{recordOf}
 use Rattle.record_report.specs.Normal.{ownTable, normal}
 
@@ -61,15 +61,15 @@ pub own-normal : normal service (report401-at 0xFF51) ≡ report401
 unfolding bit num bits val unpack fltFields isFlt foreign interRoad ownTable normal
 own-normal = refl
 
--- what a report is matched by
+-- what a report is matched by, of class 9
 abbrev key : Report → Key
-key r = record { service = service; location = locationOf service r; direction = r .head .direction; class = 9 }
+key r = record { service = service; location = locationOf service r; direction = r .head .direction; classes = record { 0 = 0x200 } }
 
--- neither matches the other's record
-pub home-not-foreign : matching (key report401) (bytes401 0x0D 0x01) ≡ false
-unfolding bit num bits val unpack fltFields isFlt foreign interRoad locationOf matching
+-- neither is at the location of the other's record
+pub home-not-foreign : alike (key report401) (bytes401 0x0D 0x01) ≡ false
+unfolding bit num bits val unpack fltFields isFlt foreign interRoad locationOf alike
 home-not-foreign = refl
 
-pub foreign-not-home : matching (key (report401-at 0xFF41)) (bytes401 0x0D 0x11) ≡ false
-unfolding bit num bits val unpack fltFields isFlt foreign interRoad locationOf matching
+pub foreign-not-home : alike (key (report401-at 0xFF41)) (bytes401 0x0D 0x11) ≡ false
+unfolding bit num bits val unpack fltFields isFlt foreign interRoad locationOf alike
 foreign-not-home = refl

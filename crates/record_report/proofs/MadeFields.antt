@@ -14,7 +14,8 @@ use Rattle.report.specs.Record.{bytesOf, groupsOf}
 use Rattle.record.specs.declared.Service.{Service}
 use Rattle.record.specs.Locations.{locationOf, headLocation, realLocation}
 use Rattle.record.specs.Layout.{recordSize, byteAt, groupsIn, serviceIn, locationIn, headIn, realIn, expiryIn, contentIn, classIn}
-use Rattle.record.specs.Matching.{matching}
+use Rattle.record.specs.declared.classes.Classes.{Classes}
+use Rattle.record.specs.Keys.{alike}
 use Rattle.record_report.specs.Made.{tailBytes, recordOf}
 use Rattle.record_report.proofs.Kept.{length-bytes}
 
@@ -76,10 +77,10 @@ module _ (r : Report) (s : Service) (class expiry : ℕ) where
   pub real-back : realIn (recordOf r s class expiry) ≡ realLocation s (locationOf s r)
   real-back = ap₂ realLocation service-back location-back
 
-  -- it matches its own service, location, direction and class
-  pub made-matches : matching (record { service = s; location = locationOf s r; direction = r .head .direction; class = class }) (recordOf r s class expiry) ≡ true
-  unfolding matching recordOf
-  made-matches =
+  -- it is of its own service, location and direction
+  pub made-alike : (x : Classes) → alike (record { service = s; location = locationOf s r; direction = r .head .direction; classes = x }) (recordOf r s class expiry) ≡ true
+  unfolding alike recordOf
+  made-alike x =
       let both : (a b : Bool) → a ≡ true → b ≡ true → a && b ≡ true = λ a b x y. ap₂ (λ (u v : Bool). u && v) x y in
       let same-location = both _ _ (eq-eqb _ _ (ap (λ (l : Location). l .code) location-back)) (both _ _ (eq-eqb _ _ (ap (λ (l : Location). l .country) location-back)) (eq-eqb _ _ (ap (λ (l : Location). l .ltn) location-back))) in
-      both _ _ (both _ _ (eq-eqb _ _ country-back) (both _ _ (eq-eqb (s .ltn) (s .ltn) refl) (eq-eqb (s .sid) (s .sid) refl))) (both _ _ same-location (both _ _ (eq-eqb (r .head .direction) (r .head .direction) refl) (eq-eqb _ _ class-back)))
+      both _ _ (both _ _ (eq-eqb _ _ country-back) (both _ _ (eq-eqb (s .ltn) (s .ltn) refl) (eq-eqb (s .sid) (s .sid) refl))) (both _ _ same-location (eq-eqb (r .head .direction) (r .head .direction) refl))

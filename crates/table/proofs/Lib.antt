@@ -9,3 +9,4 @@ pub mod Accepted
 pub mod Demand2
 pub mod Theorems
 pub mod Examples
+pub mod AdditionalEvents

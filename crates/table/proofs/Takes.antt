@@ -9,10 +9,9 @@ use lib.ListN.{length}
 use lib.Dec.{eqb}
 use borrow.Author.Tests.{eq-eqb, ne-eqb}
 use Rattle.bits.proofs.Choice.{chosen, passed-over}
-use Rattle.record.specs.declared.Key.{Key}
-use Rattle.record.specs.Layout.{recordSize, freeRecord}
-use Rattle.record.specs.Matching.{matching}
+use Rattle.record.specs.Layout.{recordSize}
 use Rattle.lent.specs.Table.{tableFits}
+use Rattle.matching.specs.Matching.{matching}
 use Rattle.checks.specs.declared.Arrival.{Arrival}
 use Rattle.checks.specs.Events.{kindFor}
 use Rattle.checks.specs.Checks.{minuteUnfit, checkRefusal}
@@ -20,18 +19,13 @@ use Rattle.table.specs.declared.Step.{Step}
 use Rattle.table.specs.declared.Answer.the-variants.{Freed, Stored, Refused}
 use Rattle.table.specs.Steps.{step, afterExpiry, expiredIn, afterMatching, matchedIn, placeIn, noRoom, afterStoring}
 use Rattle.table.specs.Expire.{expireRefusal, expireStep, expireTable}
-use Rattle.table.specs.Take.{keyOf, matches, matchesOf, recordFor, takeRefusal, takenStep, takenTable, takeStep, takeTable}
+use Rattle.table.specs.Take.{matches, matchesOf, recordFor, takeRefusal, takenStep, takenTable, takeStep, takeTable}
 use Rattle.table.proofs.Freeing.{nothing-matched, nothing-changed}
 
--- no free record matches
-pub never-free : (key : Key) → matching key freeRecord ≡ false
-unfolding matching
-never-free key = refl
-
 -- what matches, for an event of kind 1 or 2 and for another
-pub matches-is : (kind : ℕ) (key : Key) (b : Bool) → eqb kind 1 || eqb kind 2 ≡ b → matches kind key ≡ (λ r. b && matching key r)
+pub matches-is : (kind : ℕ) (q : List ℕ → Bool) (b : Bool) → eqb kind 1 || eqb kind 2 ≡ b → matches kind q ≡ (λ r. b && q r)
 unfolding matches
-matches-is kind key b e = ap {B = List ℕ → Bool} (λ (x : Bool). λ r. x && matching key r) e
+matches-is kind q b e = ap {B = List ℕ → Bool} (λ (x : Bool). λ r. x && q r) e
 
 module _ (t c l : List ℕ) (last : ℕ) (a : Arrival) (lto : ℤ) where
   abbrev Way : Step → List ℕ → Type 0
@@ -75,8 +69,8 @@ module _ (t c l : List ℕ) (last : ℕ) (a : Arrival) (lto : ℤ) where
       abbrev kind : ℕ
       kind = kindFor c (a .report)
 
-      abbrev key : Key
-      key = keyOf c a
+      abbrev match : List ℕ → Bool
+      match = matching c (a .service) (a .report)
 
       -- with a test that says the same as what matches
       taken : (q : List ℕ → Bool) → matchesOf c a ≡ q → takeRefusal t c l last a lto ≡ 0 → Way (takenStep kind m q t) (takenTable kind m q (recordFor c l a lto) t)
@@ -89,36 +83,36 @@ module _ (t c l : List ℕ) (last : ℕ) (a : Arrival) (lto : ℤ) where
       null-way is-3 =
           let not-1 : kind ≡ 1 → ⊥ = λ e. omega arith in
           let off = ne-eqb kind 1 not-1 in
-          let way = taken (λ r. false) (matches-is kind key false (ap₂ (λ (x y : Bool). x || y) off (ne-eqb kind 2 (λ e. omega arith)))) (no-room-needed not-1) in (
+          let way = taken (λ r. false) (matches-is kind match false (ap₂ (λ (x y : Bool). x || y) off (ne-eqb kind 2 (λ e. omega arith)))) (no-room-needed not-1) in (
             sym (passed-over _ _ _ off ∙ ap (λ (n : ℕ). step m (Freed (expiredIn m t) n)) (nothing-matched m t whole)) ∙ way .0,
             sym (passed-over _ _ _ off ∙ nothing-changed m t whole) ∙ way .1,
           )
 
-      pub cancelling-way : kind ≡ 2 → Way (step m (Freed (expiredIn m t) (matchedIn m (matching key) t))) (afterMatching m (matching key) t)
+      pub cancelling-way : kind ≡ 2 → Way (step m (Freed (expiredIn m t) (matchedIn m match t))) (afterMatching m match t)
       unfolding takenStep takenTable
       cancelling-way is-2 =
           let not-1 : kind ≡ 1 → ⊥ = λ e. omega arith in
           let off = ne-eqb kind 1 not-1 in
-          let way = taken (matching key) (matches-is kind key true (ap₂ (λ (x y : Bool). x || y) off (eq-eqb kind 2 is-2))) (no-room-needed not-1) in
+          let way = taken match (matches-is kind match true (ap₂ (λ (x y : Bool). x || y) off (eq-eqb kind 2 is-2))) (no-room-needed not-1) in
           (sym (passed-over _ _ _ off) ∙ way .0, sym (passed-over _ _ _ off) ∙ way .1)
 
-      pub ordinary-way : kind ≡ 1 → Way (cond (noRoom m (matching key) t) (step last (Refused 14)) (step m (Stored (expiredIn m t) (matchedIn m (matching key) t) (placeIn m (matching key) t)))) (cond (noRoom m (matching key) t) t (afterStoring m (matching key) (recordFor c l a lto) t))
+      pub ordinary-way : kind ≡ 1 → Way (cond (noRoom m match t) (step last (Refused 14)) (step m (Stored (expiredIn m t) (matchedIn m match t) (placeIn m match t)))) (cond (noRoom m match t) t (afterStoring m match (recordFor c l a lto) t))
       unfolding takenStep takenTable
-      ordinary-way is-1 = by-room (noRoom m (matching key) t) refl
+      ordinary-way is-1 = by-room (noRoom m match t) refl
         where
           on : eqb kind 1 ≡ true
           on = eq-eqb kind 1 is-1
 
-          same : matchesOf c a ≡ matching key
-          same = matches-is kind key true (ap (λ (x : Bool). x || eqb kind 2) on)
+          same : matchesOf c a ≡ match
+          same = matches-is kind match true (ap (λ (x : Bool). x || eqb kind 2) on)
 
-          full : (b : Bool) → noRoom m (matching key) t ≡ b → noRoom m (matchesOf c a) t ≡ b
+          full : (b : Bool) → noRoom m match t ≡ b → noRoom m (matchesOf c a) t ≡ b
           full b e = ap (λ (q : List ℕ → Bool). noRoom m q t) same ∙ e
 
-          by-room : (b : Bool) → noRoom m (matching key) t ≡ b → Way (cond (noRoom m (matching key) t) (step last (Refused 14)) (step m (Stored (expiredIn m t) (matchedIn m (matching key) t) (placeIn m (matching key) t)))) (cond (noRoom m (matching key) t) t (afterStoring m (matching key) (recordFor c l a lto) t))
+          by-room : (b : Bool) → noRoom m match t ≡ b → Way (cond (noRoom m match t) (step last (Refused 14)) (step m (Stored (expiredIn m t) (matchedIn m match t) (placeIn m match t)))) (cond (noRoom m match t) t (afterStoring m match (recordFor c l a lto) t))
           by-room true e = let way = no-room is-1 (full true e) in (chosen _ _ _ e ∙ way .0, chosen _ _ _ e ∙ way .1)
           by-room false e =
-              let way = taken (matching key) same (has-room is-1 (full false e)) in
+              let way = taken match same (has-room is-1 (full false e)) in
               (passed-over _ _ _ e ∙ sym (chosen _ _ _ on) ∙ way .0, passed-over _ _ _ e ∙ sym (chosen _ _ _ on) ∙ way .1)
 
 -- expiry alone

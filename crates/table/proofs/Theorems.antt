@@ -15,31 +15,37 @@ use Rattle.bits.proofs.Choice.{and-left, chosen, passed-over}
 use Rattle.content.specs.Stored.{limit}
 use Rattle.report.specs.Record.{groupsOf}
 use Rattle.record.specs.Layout.{recordSize, freeRecord, groupsIn}
-use Rattle.record.specs.Matching.{matching}
+use Rattle.record.specs.Classes.{share}
 use Rattle.record.specs.Gone.{expired, either, freedIf}
 use Rattle.record.specs.WellFormed.{wellFormed}
 use Rattle.record.proofs.FreeFits.{free-fits}
 use Rattle.record_report.specs.declared.Answer.the-variants.{Read}
+use Rattle.record_report.specs.Made.{canMake}
 use Rattle.record_report.specs.Normal.{normal}
 use Rattle.record_report.specs.Reads.{readingIn}
-use Rattle.record_report.proofs.MadeFields.{groups-back, made-matches}
+use Rattle.record_report.proofs.MadeFields.{groups-back, made-alike}
 use Rattle.record_report.proofs.WayBack.{reading-back}
 use Rattle.lent.specs.Records.{records, allOf}
+use Rattle.lent.specs.Catalogue.{hasClass}
 use Rattle.lent.specs.Table.{sized, tableFits}
 use Rattle.lent.proofs.Lents.{table-whole, table-records, lent-table}
+use Rattle.matching.specs.Classes.{classed, allClassed, classesOf}
+use Rattle.matching.specs.Matching.{matching}
+use Rattle.matching.proofs.Matches.{shares-own}
+use Rattle.matching.proofs.MadeClasses.{made-classes, made-classed, free-classed}
 use Rattle.checks.specs.declared.Arrival.{Arrival}
-use Rattle.checks.specs.Events.{kindFor, classFor, expiryFor}
-use Rattle.checks.proofs.Checked.{asked-report}
+use Rattle.checks.specs.Events.{entryFor, kindFor, classFor, expiryFor}
+use Rattle.checks.proofs.Checked.{asked-report, ends}
 use Rattle.table.specs.Records.{countIf, freeWhere, stored}
 use Rattle.table.specs.Steps.{afterMatching, placeIn, afterStoring}
 use Rattle.table.specs.Expire.{expireRefusal, expireTable}
-use Rattle.table.specs.Take.{keyOf, matches, matchesOf, recordFor, takeRefusal, takenTable, takeTable}
+use Rattle.table.specs.Take.{matches, matchesOf, recordFor, takeRefusal, takenTable, takeTable}
 use Rattle.table.specs.Read.{recordAt}
 use Rattle.table.proofs.Counts.{count-map, count-none, count-set, all-map, all-set}
 use Rattle.table.proofs.Sweeps.{length-records, length-over, records-over}
 use Rattle.table.proofs.Storing.{length-stored, records-stored}
 use Rattle.table.proofs.Freeing.{freed-either, freed-keeps, each-record, second-gone, length-both, records-both, both-at-once}
-use Rattle.table.proofs.Storable.{record-fits}
+use Rattle.table.proofs.Storable.{can-make, record-fits}
 use Rattle.table.proofs.Takes.{accepted-take}
 use Rattle.table.proofs.Accepted.{matches-never, made-sized, ok, whole, inside, both-whole, both-inside, after-take}
 
@@ -47,26 +53,18 @@ use Rattle.table.proofs.Accepted.{matches-never, made-sized, ok, whole,
 abbrev pub recordNo : List ℕ → ℕ → List ℕ
 recordNo t i = getD (records t) i freeRecord
 
--- freeing records, and storing a well-formed one, keeps a table well-formed
-same-size : (s t : List ℕ) → length s ≡ length t → sized s ≡ sized t
-unfolding sized
-same-size s t e = ap (λ (n : ℕ). leb recordSize n && (leb n (1024 * recordSize) && eqb (n % recordSize) 0)) e
+-- a test that holds of every record and of a free one holds of every record after freeing, and after storing one that it holds of
+free-each : (p q : List ℕ → Bool) (t : List ℕ) → length t % recordSize ≡ 0 → p freeRecord ≡ true → allOf p (records t) ≡ true → allOf p (records (freeWhere q t)) ≡ true
+free-each p q t w free h = ap (allOf p) (records-over (freedIf q) (freed-keeps q) t w) ∙ all-map p (freedIf q) (records t) (λ r fit. freed-either q (λ x. p x ≡ true) r free fit) h
 
-free-keeps : (p : List ℕ → Bool) (t : List ℕ) → tableFits t ≡ true → tableFits (freeWhere p t) ≡ true
-unfolding tableFits
-free-keeps p t h =
-    let w = table-whole t h in
-    ap₂ (λ (a b : Bool). a && b)
-    (same-size (freeWhere p t) t (length-over (freedIf p) (freed-keeps p) t w) ∙ and-left (sized t) (allOf wellFormed (records t)) h)
-    (ap (allOf wellFormed) (records-over (freedIf p) (freed-keeps p) t w) ∙ all-map wellFormed (freedIf p) (records t) (λ r fit. freed-either p (λ x. wellFormed x ≡ true) r free-fits fit) (table-records t h))
+stored-each : (p : List ℕ → Bool) (t r : List ℕ) (i : ℕ) → length t % recordSize ≡ 0 → i < length t / recordSize → length r ≡ recordSize → allOf p (records t) ≡ true → p r ≡ true → allOf p (records (stored t i r)) ≡ true
+stored-each p t r i w inside long h e = ap (allOf p) (records-stored t r i w inside long) ∙ all-set p (records t) i r h e
 
-stored-keeps : (t r : List ℕ) (i : ℕ) → tableFits t ≡ true → i < length t / recordSize → length r ≡ recordSize → wellFormed r ≡ true → tableFits (stored t i r) ≡ true
-unfolding tableFits
-stored-keeps t r i h inside long e =
-    let w = table-whole t h in
-    ap₂ (λ (a b : Bool). a && b)
-    (same-size (stored t i r) t (length-stored t r i w inside long) ∙ and-left (sized t) (allOf wellFormed (records t)) h)
-    (ap (allOf wellFormed) (records-stored t r i w inside long) ∙ all-set wellFormed (records t) i r (table-records t h) e)
+-- a table of the same length whose records are well-formed
+fits-again : (s t : List ℕ) → length s ≡ length t → allOf wellFormed (records s) ≡ true → tableFits t ≡ true → tableFits s ≡ true
+unfolding tableFits sized
+fits-again s t e each h =
+    ap₂ (λ (x y : Bool). x && y) (ap (λ (n : ℕ). leb recordSize n && (leb n (1024 * recordSize) && eqb (n % recordSize) 0)) e ∙ and-left (sized t) (allOf wellFormed (records t)) h) each
 
 -- Taking a report.
 module _ (t c l : List ℕ) (last : ℕ) (a : Arrival) (lto : ℤ) where
@@ -83,9 +81,6 @@ module _ (t c l : List ℕ) (last : ℕ) (a : Arrival) (lto : ℤ) where
   abbrev after : List ℕ
   after = takeTable t c l last a lto
 
-  both-keep : takeRefusal t c l last a lto ≡ 0 → tableFits t ≡ true → tableFits (afterMatching minute match t) ≡ true
-  both-keep fine fits = ap tableFits (both-at-once minute match (matches-never t c l last a lto) t (whole t c l last a lto fine)) ∙ free-keeps (either (expired minute) match) t fits
-
   -- a take keeps the length of the table, and a well-formed table well-formed
   pub same-length : length after ≡ length t
   unfolding afterStoring
@@ -96,13 +91,23 @@ module _ (t c l : List ℕ) (last : ℕ) (a : Arrival) (lto : ℤ) where
       length-stored (afterMatching minute match t) (recordFor c l a lto) (placeIn minute match t) (both-whole t c l last a lto fine) (both-inside t c l last a lto fine is-1) (made-sized t c l last a lto)
       ∙ length-both minute match (matches-never t c l last a lto) t (whole t c l last a lto fine))
 
-  pub take-keeps : tableFits t ≡ true → tableFits after ≡ true
+  -- a test that holds of every record at entry, of a free one and of the one that is stored holds of every record afterwards
+  pub each-keeps : (p : List ℕ → Bool) → p freeRecord ≡ true → (takeRefusal t c l last a lto ≡ 0 → kind ≡ 1 → p (recordFor c l a lto) ≡ true) → allOf p (records t) ≡ true → allOf p (records after) ≡ true
   unfolding afterStoring
-  take-keeps fits =
-      after-take t c l last a lto (λ u. tableFits u ≡ true) fits (λ fine. both-keep fine fits)
+  each-keeps p free made h =
+      after-take t c l last a lto (λ u. allOf p (records u) ≡ true) h both
       (λ fine is-1.
-      stored-keeps (afterMatching minute match t) (recordFor c l a lto) (placeIn minute match t) (both-keep fine fits) (both-inside t c l last a lto fine is-1) (made-sized t c l last a lto)
-      (record-fits t c l last a lto (ok t c l last a lto fine) is-1))
+      stored-each p (afterMatching minute match t) (recordFor c l a lto) (placeIn minute match t) (both-whole t c l last a lto fine) (both-inside t c l last a lto fine is-1) (made-sized t c l last a lto) (both fine)
+      (made fine is-1))
+    where
+      both : takeRefusal t c l last a lto ≡ 0 → allOf p (records (afterMatching minute match t)) ≡ true
+      both fine =
+          let w = whole t c l last a lto fine in
+          ap (λ (u : List ℕ). allOf p (records u)) (both-at-once minute match (matches-never t c l last a lto) t w) ∙ free-each p (either (expired minute) match) t w free h
+
+  pub take-keeps : tableFits t ≡ true → tableFits after ≡ true
+  take-keeps fits =
+      fits-again after t same-length (each-keeps wellFormed free-fits (λ fine is-1. record-fits t c l last a lto (ok t c l last a lto fine) is-1) (table-records t fits)) fits
 
   module _ (fine : takeRefusal t c l last a lto ≡ 0) where
     abbrev freed : List (List ℕ)
@@ -112,7 +117,7 @@ module _ (t c l : List ℕ) (last : ℕ) (a : Arrival) (lto : ℤ) where
     none-left = count-map match (λ r. match (freedIf (either (expired minute) match) r)) (freedIf (either (expired minute) match)) (records t) (λ r. refl)
         ∙ count-none (λ r. match (freedIf (either (expired minute) match) r)) (records t) (second-gone (expired minute) match (matches-never t c l last a lto))
 
-    -- after a cancelling message no record is left of its service, location, direction and class
+    -- after a cancelling message no record is left of its service, location and direction that shares a class with it
     pub cancelled : kind ≡ 2 → countIf match (records after) ≡ 0
     unfolding takenTable
     cancelled is-2 =
@@ -127,6 +132,16 @@ module _ (t c l : List ℕ) (last : ℕ) (a : Arrival) (lto : ℤ) where
 
       room : place < length freed
       room = omega (arith, length-map (records t) (freedIf (either (expired minute) match)), length-records t, inside t c l last a lto fine is-1)
+
+      -- what its record is made of
+      can : canMake (a .report) (a .service) (classFor c (a .report)) (expiryFor c l a lto) ≡ true
+      can = can-make t c l last a lto (ok t c l last a lto fine) is-1
+
+      early : expiryFor c l a lto < 0x1_0000_0000
+      early = ends t c l last a lto (ok t c l last a lto fine) .1
+
+      has : hasClass (entryFor c (a .report)) ≡ true
+      has = ap (λ (b : Bool). b || eqb kind 2) (eq-eqb kind 1 is-1)
 
       stored-records : records after ≡ set freed place (recordFor c l a lto)
       unfolding takenTable afterStoring
@@ -147,11 +162,18 @@ module _ (t c l : List ℕ) (last : ℕ) (a : Arrival) (lto : ℤ) where
       pub stored-groups : groupsIn (recordNo after place) ≡ groupsOf (a .report)
       stored-groups = ap groupsIn stored-there ∙ groups-back (a .report) (a .service) (classFor c (a .report)) (expiryFor c l a lto)
 
-      -- it is then the only one of its service, location, direction and class
-      pub only-record : countIf match (records after) ≡ 1
+      -- it matches its own report, whose class it has
+      own-matches : length (a .report .items .places) ≡ limit → matching c (a .service) (a .report) (recordFor c l a lto) ≡ true
+      unfolding matching
+      own-matches sized =
+          ap₂ (λ (x y : Bool). x && y) (made-alike (a .report) (a .service) (classFor c (a .report)) (expiryFor c l a lto) _)
+          (ap (share (classesOf c (a .report))) (made-classes c (a .report) (a .service) (classFor c (a .report)) (expiryFor c l a lto) sized can early) ∙ shares-own c (a .report) has)
+
+      -- it is then the only one of its service, location and direction that shares a class with it
+      pub only-record : length (a .report .items .places) ≡ limit → countIf match (records after) ≡ 1
       unfolding matches num
-      only-record =
-          let own : match (recordFor c l a lto) ≡ true = ap (λ (b : Bool). (b || eqb kind 2) && matching (keyOf c a) (recordFor c l a lto)) (eq-eqb kind 1 is-1) ∙ made-matches (a .report) (a .service) (classFor c (a .report)) (expiryFor c l a lto) in
+      only-record sized =
+          let own : match (recordFor c l a lto) ≡ true = ap₂ (λ (x y : Bool). (x || eqb kind 2) && y) (eq-eqb kind 1 is-1) (own-matches sized) in
           let free : match (getD freed place freeRecord) ≡ false = ap match (each-record (either (expired minute) match) (records t) place) ∙ second-gone (expired minute) match (matches-never t c l last a lto) (recordNo t place) in
           let old : num (match (getD freed place freeRecord)) ≡ 0 = ap num free in
           let new : num (match (recordFor c l a lto)) ≡ 1 = ap num own in
@@ -167,11 +189,29 @@ module _ (t c l : List ℕ) (last : ℕ) (a : Arrival) (lto : ℤ) where
           ∙ ap readingIn stored-there
           ∙ reading-back (a .report) (a .service) (classFor c (a .report)) (expiryFor c l a lto) sized (asked-report t c l last a lto (ok t c l last a lto fine .asked))
 
--- Expiry alone keeps a well-formed table well-formed.
-pub expire-keeps : (t : List ℕ) (last minute : ℕ) → tableFits t ≡ true → tableFits (expireTable t last minute) ≡ true
-unfolding expireTable
-expire-keeps t last minute fits = by-refusal (eqb (expireRefusal t last minute) 0) refl
-  where
-    by-refusal : (b : Bool) → eqb (expireRefusal t last minute) 0 ≡ b → tableFits (expireTable t last minute) ≡ true
-    by-refusal true e = ap tableFits (chosen _ _ _ e) ∙ free-keeps (expired minute) t fits
-    by-refusal false e = ap tableFits (passed-over _ _ _ e) ∙ fits
+  -- a table that is not refused for its records' classes is not refused for them after the take either, with the same catalogue
+  pub take-keeps-classes : length (a .report .items .places) ≡ limit → allClassed c t ≡ true → allClassed c after ≡ true
+  take-keeps-classes sized =
+      each-keeps (classed c) (free-classed c)
+      (λ fine is-1. made-classed c (a .report) (a .service) (classFor c (a .report)) (expiryFor c l a lto) sized (can fine is-1) (early fine is-1) ∙ has fine is-1)
+
+-- Expiry alone keeps a well-formed table well-formed, and every test that holds of its records and of a free one.
+module _ (t : List ℕ) (last minute : ℕ) (fits : tableFits t ≡ true) where
+  expiry-keeps : (P : List ℕ → Type 0) → P t → P (freeWhere (expired minute) t) → P (expireTable t last minute)
+  unfolding expireTable
+  expiry-keeps P here freed = by-refusal (eqb (expireRefusal t last minute) 0) refl
+    where
+      by-refusal : (b : Bool) → eqb (expireRefusal t last minute) 0 ≡ b → P (expireTable t last minute)
+      by-refusal true e = subst P (sym (chosen _ _ _ e)) freed
+      by-refusal false e = subst P (sym (passed-over _ _ _ e)) here
+
+  pub each-keeps-expiry : (p : List ℕ → Bool) → p freeRecord ≡ true → allOf p (records t) ≡ true → allOf p (records (expireTable t last minute)) ≡ true
+  each-keeps-expiry p free h = expiry-keeps (λ u. allOf p (records u) ≡ true) h (free-each p (expired minute) t (table-whole t fits) free h)
+
+  pub expire-keeps : tableFits (expireTable t last minute) ≡ true
+  expire-keeps =
+      fits-again (expireTable t last minute) t (expiry-keeps (λ u. length u ≡ length t) refl (length-over (freedIf (expired minute)) (freed-keeps (expired minute)) t (table-whole t fits)))
+      (each-keeps-expiry wellFormed free-fits (table-records t fits)) fits
+
+  pub expire-keeps-classes : (c : List ℕ) → allClassed c t ≡ true → allClassed c (expireTable t last minute) ≡ true
+  expire-keeps-classes c = each-keeps-expiry (classed c) (free-classed c)

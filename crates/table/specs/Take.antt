@@ -1,13 +1,11 @@
--- Taking a report (document 01, "The message table"; ISO 14819-1, clauses 6.4 and 6.5).
+-- Taking a report (documents 01, "The message table", and 02, R-4; ISO 14819-1, clauses 6.4 and 6.5).
 use Prim.Native.Nat.{ℕ}
 use mathlib.Core.Bool.{Bool, cond, _&&_, _||_}
 use mathlib.Core.List.{List}
 use lib.IntN.{ℤ}
 use lib.Dec.{eqb}
-use Rattle.record.specs.declared.Key.{Key}
-use Rattle.record.specs.Locations.{locationOf}
-use Rattle.record.specs.Matching.{matching}
 use Rattle.record_report.specs.Made.{recordOf}
+use Rattle.matching.specs.Matching.{matching}
 use Rattle.checks.specs.declared.Arrival.{Arrival}
 use Rattle.checks.specs.Events.{kindFor, classFor, expiryFor}
 use Rattle.checks.specs.Checks.{checkRefusal}
@@ -15,17 +13,13 @@ use Rattle.table.specs.declared.Step.{Step}
 use Rattle.table.specs.declared.Answer.the-variants.{Freed, Stored, Refused}
 use Rattle.table.specs.Steps.{step, expiredIn, afterMatching, matchedIn, placeIn, noRoom, afterStoring}
 
--- service, location, direction and update class of the first event
-abbrev pub keyOf : List ℕ → Arrival → Key
-keyOf catalogue a =
-    record { service = a .service; location = locationOf (a .service) (a .report); direction = a .report .head .direction; class = classFor catalogue (a .report) }
+-- the records that a test holds of, for an event of kind 1 or 2
+unfoldable pub matches : ℕ → (List ℕ → Bool) → List ℕ → Bool
+matches kind match r = (eqb kind 1 || eqb kind 2) && match r
 
--- the records that match, for an event of kind 1 or 2
-unfoldable pub matches : ℕ → Key → List ℕ → Bool
-matches kind key r = (eqb kind 1 || eqb kind 2) && matching key r
-
+-- those that match the report
 abbrev pub matchesOf : List ℕ → Arrival → List ℕ → Bool
-matchesOf catalogue a = matches (kindFor catalogue (a .report)) (keyOf catalogue a)
+matchesOf catalogue a = matches (kindFor catalogue (a .report)) (matching catalogue (a .service) (a .report))
 
 -- the record to be stored, which ends by its life
 abbrev pub recordFor : (catalogue lives : List ℕ) → Arrival → ℤ → List ℕ

@@ -4,8 +4,8 @@ ghost use mathlib.Core.Bool.{true, cond};
 ghost use Prim.Native.Nat.{_/_, _%_, _<_};
 ghost use lib.ListN.{length};
 ghost use Rattle.record.specs.Layout.{recordSize};
-ghost use Rattle.record.specs.Matching.{matching};
 ghost use Rattle.record_report.specs.Made.{recordOf, canMake};
+ghost use Rattle.matching.specs.Matching.{keyMatches};
 ghost use Rattle.checks.specs.Checks.{checkRefusal};
 ghost use Rattle.table.specs.declared.Answer.the-variants.{Freed, Stored, Refused};
 ghost use Rattle.table.specs.Records.{stored};
@@ -24,6 +24,7 @@ use clock::Expiry;
 use clock::Utc;
 use lent::Lent;
 use lent::catalogue::Entry;
+use matching::classes::of_report;
 use record::Key;
 use record::Record;
 use record::Service;
@@ -33,8 +34,9 @@ use report::Report;
 impl Table {
     // Takes a report of a service at a minute with a local time offset: frees the expired records and, for an ordinary or a cancelling
     // event, the matching ones, and stores the report of an ordinary event in the lowest-numbered free record. Refused, in this order: a
-    // malformed table, catalogue or lives (10), an unfit report, service or offset (9), a minute below the last one or too large (13), a
-    // location whose code is an FLT code (12), an unknown event (11), no room (14). A refusal changes nothing.
+    // malformed table, catalogue or lives, and a used record whose content does not read as items or whose first event has no update class
+    // (10), an unfit report, service or offset (9), a minute below the last one or too large (13), a location whose code is an FLT code
+    // (12), an unknown event (11), no room (14). A refusal changes nothing.
     pub fn take(
         t: &mut [u8],
         catalogue: &[u16],
@@ -70,7 +72,7 @@ fn take_checked(
     let report = arrival.report;
     let head = report.head;
     let minute = arrival.minute;
-    let entry = Entry(catalogue[head.event as usize]);
+    let entry = Entry::of_event(catalogue, head.event);
     let kind = entry.kind();
     if kind == Entry::NULL {
         return free_expired(t, minute);
@@ -81,27 +83,29 @@ fn take_checked(
         service,
         location,
         direction: head.direction,
-        class: entry.class(),
+        classes: of_report(report, catalogue),
     };
     if kind == Entry::CANCELLING {
-        return take_cancelling(t, minute, key);
+        return take_cancelling(t, catalogue, minute, key);
     }
     let life = lives[Lent::DURATIONS * entry.duration_type() as usize + report.duration as usize];
     // The checks leave the clock nothing to refuse.
     let expiry = minute.expiry(lto, life);
     match expiry {
-        Expiry::At(end) => take_ordinary(t, last, minute, report, key, end),
+        Expiry::At(end) => {
+            take_ordinary(t, catalogue, last, minute, report, key, entry.class(), end)
+        }
         Expiry::Refused(n) => refused(last, n),
     }
 }
 
 // A cancelling message frees the expired and the matching records.
-fn take_cancelling(t: &mut [u8], minute: Utc, key: Key) -> Step
+fn take_cancelling(t: &mut [u8], catalogue: &[u16], minute: Utc, key: Key) -> Step
     requires { ⌜ length (now t) % recordSize ≡ 0 ⌝ }
-    ensures { λ s. ⌜ s ≡ step (minute .0) (Freed (expiredIn (minute .0) (now (t .entry))) (matchedIn (minute .0) (matching key) (now (t .entry)))) ⌝ }
-    ensures { λ _. ⌜ now (t .exit) ≡ afterMatching (minute .0) (matching key) (now (t .entry)) ⌝ }
+    ensures { λ s. ⌜ s ≡ step (minute .0) (Freed (expiredIn (minute .0) (now (t .entry))) (matchedIn (minute .0) (keyMatches (now (catalogue .entry)) key) (now (t .entry)))) ⌝ }
+    ensures { λ _. ⌜ now (t .exit) ≡ afterMatching (minute .0) (keyMatches (now (catalogue .entry)) key) (now (t .entry)) ⌝ }
 {
-    let freed = sweep_gone(t, minute, key);
+    let freed = sweep_gone(t, catalogue, minute, key);
     Step {
         last: minute,
         answer: Answer::Freed {
@@ -114,23 +118,25 @@ fn take_cancelling(t: &mut [u8], minute: Utc, key: Key) -> Step
 // An ordinary message is stored, if steps 1 and 2 leave a record free; else they freed none, and it is refused (14).
 fn take_ordinary(
     t: &mut [u8],
+    catalogue: &[u16],
     last: Utc,
     minute: Utc,
     report: Report,
     key: Key,
+    class: u8,
     expiry: Utc,
 ) -> Step
-    requires { ⌜ (length (now t) % recordSize ≡ 0) × (canMake report (key .service) (key .class) (expiry .0) ≡ true) ⌝ }
-    ensures { λ s. ⌜ s ≡ cond (noRoom (minute .0) (matching key) (now (t .entry))) (step (last .0) (Refused 14)) (step (minute .0) (Stored (expiredIn (minute .0) (now (t .entry))) (matchedIn (minute .0) (matching key) (now (t .entry))) (placeIn (minute .0) (matching key) (now (t .entry))))) ⌝ }
-    ensures { λ _. ⌜ now (t .exit) ≡ cond (noRoom (minute .0) (matching key) (now (t .entry))) (now (t .entry)) (afterStoring (minute .0) (matching key) (recordOf report (key .service) (key .class) (expiry .0)) (now (t .entry))) ⌝ }
+    requires { ⌜ (length (now t) % recordSize ≡ 0) × (canMake report (key .service) class (expiry .0) ≡ true) ⌝ }
+    ensures { λ s. ⌜ s ≡ cond (noRoom (minute .0) (keyMatches (now (catalogue .entry)) key) (now (t .entry))) (step (last .0) (Refused 14)) (step (minute .0) (Stored (expiredIn (minute .0) (now (t .entry))) (matchedIn (minute .0) (keyMatches (now (catalogue .entry)) key) (now (t .entry))) (placeIn (minute .0) (keyMatches (now (catalogue .entry)) key) (now (t .entry))))) ⌝ }
+    ensures { λ _. ⌜ now (t .exit) ≡ cond (noRoom (minute .0) (keyMatches (now (catalogue .entry)) key) (now (t .entry))) (now (t .entry)) (afterStoring (minute .0) (keyMatches (now (catalogue .entry)) key) (recordOf report (key .service) class (expiry .0)) (now (t .entry))) ⌝ }
 {
-    let gone = sweep_gone(t, minute, key);
+    let gone = sweep_gone(t, catalogue, minute, key);
     let place = find_free(t);
     if t.len() / Record::SIZE <= place {
         return refused(last, 14);
     }
     let service = key.service;
-    put_at(t, place, report, service, key.class, expiry);
+    put_at(t, place, report, service, class, expiry);
     Step {
         last: minute,
         answer: Answer::Stored {

@@ -2,7 +2,7 @@
 use Prim.Native.Nat.{ℕ, _+_, _*_}
 use native.Mathlib.Omega.{arith}
 use mathlib.Core.Path.{_≡_, sym, ap, ap₂, _∙_}
-use mathlib.Core.Bool.{cond}
+use mathlib.Core.Bool.{Bool, cond}
 use mathlib.Core.List.{List}
 use lib.IntN.{ℤ}
 use lib.ListN.{getD}
@@ -15,13 +15,17 @@ use Rattle.clock.specs.Expiry.{expiryAnswer}
 use Rattle.clock.specs.Answers.{minuteOf}
 use Rattle.location.specs.declared.Location.{Location}
 use Rattle.record.specs.declared.Key.{Key}
-use Rattle.record.specs.Matching.{matching}
+use Rattle.record.specs.Locations.{locationOf}
+use Rattle.record.specs.Classes.{setOf}
 use Rattle.record_report.specs.Made.{recordOf, canMake}
-use Rattle.lent.specs.Catalogue.{typeOf}
+use Rattle.lent.specs.Catalogue.{classOf, kindOf, typeOf}
 use Rattle.lent.proofs.Lents.{lent-whole}
+use Rattle.matching.specs.Classes.{classesOf}
+use Rattle.matching.specs.Matching.{matching, keyMatches}
+use Rattle.matching.proofs.Matches.{key-matches}
 use Rattle.checks.specs.declared.Arrival.{Arrival}
-use Rattle.checks.specs.Events.{entryFor, kindFor, expiryFor}
-use Rattle.checks.proofs.Checked.{Checked, checked, event-inside, life-inside, expiry-is, kinds}
+use Rattle.checks.specs.Events.{entryFor, kindFor, classFor, expiryFor}
+use Rattle.checks.proofs.Checked.{Checked, checked, life-inside, expiry-is, kinds}
 use Rattle.table.specs.declared.Answer.the-variants.{Freed, Stored, Refused}
 use Rattle.table.specs.Steps.{step, expiredIn, afterMatching, matchedIn, placeIn, noRoom, afterStoring}
 use Rattle.table.proofs.Storable.{can-make}
@@ -30,57 +34,63 @@ use borrow.Author.Needs.{needs}
 use Rattle.table.proofs.take.take_checked.Statement.{statement}
 use Rattle.table.proofs.take.take_checked.Tie as tie
 
--- what a report is matched by, with its location and its class
+-- what a report is matched by, with its location and its classes
 abbrev keyWith : Arrival → Location → ℕ → Key
-keyWith v location class = record { service = v .service; location = location; direction = v .report .head .direction; class = class }
+keyWith v location classes = record { service = v .service; location = location; direction = v .report .head .direction; classes = record { 0 = classes } }
 
-event : tie.Need-shared-slice-read-life
-event c =
-    let s = c .before .before .before .before .before .before .before .before in
-    let a = s .args in
-    let ok = checked (a .t .now) (a .catalogue .now) (a .lives .now) (a .last .0) (a .arrival) (a .lto) (s .pre) in
-    omega (arith, event-inside (a .t .now) (a .catalogue .now) (a .lives .now) (a .last .0) (a .arrival) (a .lto) (ok .lent) (ok .asked))
+-- matching by that key is matching the report
+same-match : (c : List ℕ) (v : Arrival) (location : Location) (classes : ℕ) → location ≡ locationOf (v .service) (v .report) → classes ≡ setOf (classesOf c (v .report))
+    → keyMatches c (keyWith v location classes) ≡ matching c (v .service) (v .report)
+same-match c v location classes e f = ap₂ (λ (l : Location) (n : ℕ). keyMatches c (keyWith v l n)) e f ∙ key-matches c (v .service) (v .report)
 
 whole : tie.Need-free-expired-requires
 whole c κs =
-    let s = c .before .before .before .before .before .before .before .before .before .before .before in
+    let s = c .before .before .before .before .before .before .before .before .before .before in
     let a = s .args in
     lent-whole (a .t .now) (a .catalogue .now) (a .lives .now) (checked (a .t .now) (a .catalogue .now) (a .lives .now) (a .last .0) (a .arrival) (a .lto) (s .pre) .lent)
 
 returns : tie.Need-returns
 returns c =
-    let s = c .before .before .before .before .before .before .before .before .before .before .before .before .before .before in
+    let at = c .before .before .before .before .before in
+    let s = at .before .before .before .before .before .before .before .before in
     let a = s .args in
-    let way = null-way (a .t .now) (a .catalogue .now) (a .lives .now) (a .last .0) (a .arrival) (a .lto) (s .pre) (lent-whole (a .t .now) (a .catalogue .now) (a .lives .now) (checked (a .t .now) (a .catalogue .now) (a .lives .now) (a .last .0) (a .arrival) (a .lto) (s .pre) .lent)) (sym (c .before .before .before .before .before .kind .ensures) ∙ c .before .before .before .before .if1 .taken) in
+    let is-3 = sym (at .kind .ensures ∙ ap kindOf (at .before .of-event .ensures)) ∙ c .before .before .before .before .if1 .taken in
+    let way = null-way (a .t .now) (a .catalogue .now) (a .lives .now) (a .last .0) (a .arrival) (a .lto) (s .pre) (lent-whole (a .t .now) (a .catalogue .now) (a .lives .now) (checked (a .t .now) (a .catalogue .now) (a .lives .now) (a .last .0) (a .arrival) (a .lto) (s .pre) .lent)) is-3 in
     let f = c .before .before .free-expired .ensures in
     (f .0 ∙ way .0, f .1 ∙ way .1)
 
 whole-2 : tie.Need-take-cancelling-requires
 whole-2 c κs =
-    let s = c .before .before .before .before .before .before .before .before .before .before .before .before .before .before .before in
+    let s = c .before .before .before .before .before .before .before .before .before .before .before .before .before .before in
     let a = s .args in
     lent-whole (a .t .now) (a .catalogue .now) (a .lives .now) (checked (a .t .now) (a .catalogue .now) (a .lives .now) (a .last .0) (a .arrival) (a .lto) (s .pre) .lent)
 
 returns-2 : tie.Need-returns-2
 returns-2 c =
-    let s = c .before .before .before .before .before .before .before .before .before .before .before .before .before .before .before .before .before .before in
+    let at-if = c .before .before .before .before in
+    let at = at-if .before .before .before .before .before in
+    let s = at .before .before .before .before .before .before .before .before in
     let a = s .args in
     let t = a .t .now in
+    let k = a .catalogue .now in
     let v = a .arrival in
     let m = v .minute .0 in
-    let way = cancelling-way t (a .catalogue .now) (a .lives .now) (a .last .0) v (a .lto) (s .pre) (lent-whole t (a .catalogue .now) (a .lives .now) (checked t (a .catalogue .now) (a .lives .now) (a .last .0) v (a .lto) (s .pre) .lent)) (sym (c .before .before .before .before .before .before .before .before .before .kind .ensures) ∙ c .before .before .before .before .if2 .taken) in
+    let is-2 = sym (at .kind .ensures ∙ ap kindOf (at .before .of-event .ensures)) ∙ at-if .if2 .taken in
+    let way = cancelling-way t k (a .lives .now) (a .last .0) v (a .lto) (s .pre) (lent-whole (a .t .now) (a .catalogue .now) (a .lives .now) (checked (a .t .now) (a .catalogue .now) (a .lives .now) (a .last .0) (a .arrival) (a .lto) (s .pre) .lent)) is-2 in
     let f = c .before .before .take-cancelling .ensures in
-    let key = ap₂ (keyWith v) (c .before .before .before .before .before .before .location-of .ensures) (c .before .before .before .before .before .class .ensures) in (
-      f .0 ∙ ap (λ (k : Key). step m (Freed (expiredIn m t) (matchedIn m (matching k) t))) key ∙ way .0,
-      f .1 ∙ ap (λ (k : Key). afterMatching m (matching k) t) key ∙ way .1,
+    let match = same-match k v _ _ (at-if .before .before .location-of .ensures) (at-if .before .of-report .ensures) in (
+      f .0 ∙ ap (λ (q : List ℕ → Bool). step m (Freed (expiredIn m t) (matchedIn m q t))) match ∙ way .0,
+      f .1 ∙ ap (λ (q : List ℕ → Bool). afterMatching m q t) match ∙ way .1,
     )
 
-life : tie.Need-shared-slice-read-life-2
+life : tie.Need-shared-slice-read-life
 life c =
-    let s = c .before .before .before .before .before .before .before .before .before .before .before .before .before .before .before .before .before in
+    let at-type = c .before .before in
+    let at = at-type .before .before .before .before .before .before .before in
+    let s = at .before .before .before .before .before .before .before in
     let a = s .args in
     let ok = checked (a .t .now) (a .catalogue .now) (a .lives .now) (a .last .0) (a .arrival) (a .lto) (s .pre) in
-    omega (arith, c .before .before .duration-type .ensures, life-inside (a .t .now) (a .catalogue .now) (a .lives .now) (a .last .0) (a .arrival) (a .lto) ok)
+    omega (arith, at-type .duration-type .ensures ∙ ap typeOf (at .of-event .ensures), life-inside (a .t .now) (a .catalogue .now) (a .lives .now) (a .last .0) (a .arrival) (a .lto) ok)
 
 -- when the report ends, as the clock answers it: nothing is refused
 clock-told : (t k l : List ℕ) (last : ℕ) (v : Arrival) (lto z : ℤ) (n : ℕ) (x : Expiry) → Checked t k l last v lto → z ≡ lto → n ≡ typeOf (entryFor k (v .report))
@@ -97,48 +107,58 @@ is-ordinary t k l last v lto n ok e not-3 not-2 = omega (arith, kinds t k l last
 
 take-ordinary-requires : tie.Need-take-ordinary-requires
 take-ordinary-requires c κs =
-    let x = c .before .before .before .before in
-    let y = x .before in
-    let s = y .before .before .before .before .before .before .before .before .before .before .before .before .before .before .before .before .before in
+    let at-clock = c .before .before .before .before .before in
+    let at-type = at-clock .before .before .before in
+    let at = at-type .before .before .before .before .before .before .before in
+    let s = at .before .before .before .before .before .before .before in
     let a = s .args in
-    let ok = checked (a .t .now) (a .catalogue .now) (a .lives .now) (a .last .0) (a .arrival) (a .lto) (s .pre) in
-    let is-1 = is-ordinary (a .t .now) (a .catalogue .now) (a .lives .now) (a .last .0) (a .arrival) (a .lto) _ ok (y .before .before .before .before .before .before .before .before .kind .ensures) (y .before .before .before .before .before .before .before .if1 .left) (y .before .before .before .if2 .left) in
-    let told = clock-told (a .t .now) (a .catalogue .now) (a .lives .now) (a .last .0) (a .arrival) (a .lto) _ _ _ ok (toZ-ofZ w8 (a .lto) (s .fits .lto)) (y .before .before .duration-type .ensures) (x .expiry .ensures) in
-    let e = ap minuteOf (sym (c .before .before .expiry2 .given .1) ∙ told) in (
-      lent-whole (a .t .now) (a .catalogue .now) (a .lives .now) (ok .lent),
-      ap₂ (canMake (a .arrival .report) (a .arrival .service)) (y .before .before .before .before .class .ensures) e ∙ can-make (a .t .now) (a .catalogue .now) (a .lives .now) (a .last .0) (a .arrival) (a .lto) ok is-1,
-    )
+    let t = a .t .now in
+    let k = a .catalogue .now in
+    let l = a .lives .now in
+    let v = a .arrival in
+    let entry = at .of-event .ensures in
+    let ok = checked t k l (a .last .0) v (a .lto) (s .pre) in
+    let is-1 = is-ordinary t k l (a .last .0) v (a .lto) _ ok (at-type .before .before .before .before .before .before .kind .ensures ∙ ap kindOf entry) (at-type .before .before .before .before .before .if1 .left) (at-type .before .if2 .left) in
+    let told = clock-told t k l (a .last .0) v (a .lto) _ _ _ ok (toZ-ofZ w8 (a .lto) (s .fits .lto)) (at-type .duration-type .ensures ∙ ap typeOf entry) (at-clock .expiry .ensures) in
+    let end = ap minuteOf (sym (c .before .before .before .expiry2 .given .1) ∙ told) in
+    let class = c .class .ensures ∙ ap classOf entry in
+    (lent-whole t k l (ok .lent), ap₂ (canMake (v .report) (v .service)) class end ∙ can-make t k l (a .last .0) v (a .lto) ok is-1)
 
 returns-3 : tie.Need-returns-3
 returns-3 c =
-    let x = c .before .before .before .before .before .before .before in
-    let y = x .before in
-    let s = y .before .before .before .before .before .before .before .before .before .before .before .before .before .before .before .before .before in
+    let at-clock = c .before .before .before .before .before .before .before .before in
+    let at-type = at-clock .before .before .before in
+    let at = at-type .before .before .before .before .before .before .before in
+    let s = at .before .before .before .before .before .before .before in
     let a = s .args in
     let t = a .t .now in
+    let k = a .catalogue .now in
+    let l = a .lives .now in
     let v = a .arrival in
     let m = v .minute .0 in
-    let ok = checked t (a .catalogue .now) (a .lives .now) (a .last .0) v (a .lto) (s .pre) in
-    let is-1 = is-ordinary t (a .catalogue .now) (a .lives .now) (a .last .0) v (a .lto) _ ok (y .before .before .before .before .before .before .before .before .kind .ensures) (y .before .before .before .before .before .before .before .if1 .left) (y .before .before .before .if2 .left) in
-    let told = clock-told t (a .catalogue .now) (a .lives .now) (a .last .0) v (a .lto) _ _ _ ok (toZ-ofZ w8 (a .lto) (s .fits .lto)) (y .before .before .duration-type .ensures) (x .expiry .ensures) in
-    let e = ap minuteOf (sym (c .before .before .before .before .before .expiry2 .given .1) ∙ told) in
-    let way = ordinary-way t (a .catalogue .now) (a .lives .now) (a .last .0) v (a .lto) (s .pre) (lent-whole t (a .catalogue .now) (a .lives .now) (ok .lent)) is-1 in
+    let entry = at .of-event .ensures in
+    let ok = checked t k l (a .last .0) v (a .lto) (s .pre) in
+    let is-1 = is-ordinary t k l (a .last .0) v (a .lto) _ ok (at-type .before .before .before .before .before .before .kind .ensures ∙ ap kindOf entry) (at-type .before .before .before .before .before .if1 .left) (at-type .before .if2 .left) in
+    let told = clock-told t k l (a .last .0) v (a .lto) _ _ _ ok (toZ-ofZ w8 (a .lto) (s .fits .lto)) (at-type .duration-type .ensures ∙ ap typeOf entry) (at-clock .expiry .ensures) in
+    let end = ap minuteOf (sym (c .before .before .before .before .before .before .expiry2 .given .1) ∙ told) in
+    let class = c .before .before .before .class .ensures ∙ ap classOf entry in
+    let way = ordinary-way t k l (a .last .0) v (a .lto) (s .pre) (lent-whole t k l (ok .lent)) is-1 in
     let f = c .before .before .take-ordinary .ensures in
-    let key = ap₂ (keyWith v) (y .before .before .before .before .before .location-of .ensures) (y .before .before .before .before .class .ensures) in (
-      f .0
-          ∙ ap (λ (k : Key). cond (noRoom m (matching k) t) (step (a .last .0) (Refused 14)) (step m (Stored (expiredIn m t) (matchedIn m (matching k) t) (placeIn m (matching k) t)))) key
-          ∙ way .0,
-      f .1 ∙ ap₂ (λ (k : Key) (n : ℕ). cond (noRoom m (matching k) t) t (afterStoring m (matching k) (recordOf (v .report) (k .service) (k .class) n) t)) key e ∙ way .1,
+    let match = same-match k v _ _ (at-type .before .before .before .location-of .ensures) (at-type .before .before .of-report .ensures) in
+    let made = ap₂ (recordOf (v .report) (v .service)) class end in (
+      f .0 ∙ ap (λ (q : List ℕ → Bool). cond (noRoom m q t) (step (a .last .0) (Refused 14)) (step m (Stored (expiredIn m t) (matchedIn m q t) (placeIn m q t)))) match ∙ way .0,
+      f .1 ∙ ap₂ (λ (q : List ℕ → Bool) (r : List ℕ). cond (noRoom m q t) t (afterStoring m q r t)) match made ∙ way .1,
     )
 
 returns-4 : tie.Need-returns-4
 returns-4 c =
-    let x = c .before .before .before .before in
-    let y = x .before in
-    let s = y .before .before .before .before .before .before .before .before .before .before .before .before .before .before .before .before .before in
+    let at-clock = c .before .before .before .before in
+    let at-type = at-clock .before .before .before in
+    let at = at-type .before .before .before .before .before .before .before in
+    let s = at .before .before .before .before .before .before .before in
     let a = s .args in
     let ok = checked (a .t .now) (a .catalogue .now) (a .lives .now) (a .last .0) (a .arrival) (a .lto) (s .pre) in
-    let told = clock-told (a .t .now) (a .catalogue .now) (a .lives .now) (a .last .0) (a .arrival) (a .lto) _ _ _ ok (toZ-ofZ w8 (a .lto) (s .fits .lto)) (y .before .before .duration-type .ensures) (x .expiry .ensures) in
+    let told = clock-told (a .t .now) (a .catalogue .now) (a .lives .now) (a .last .0) (a .arrival) (a .lto) _ _ _ ok (toZ-ofZ w8 (a .lto) (s .fits .lto)) (at-type .duration-type .ensures ∙ ap typeOf (at .of-event .ensures)) (at-clock .expiry .ensures) in
     absurd (never-refused _ _ (sym (c .before .before .expiry3 .given .1) ∙ told))
 
 pub take-checked-spec : {M : Type 1} → statement M
@@ -146,8 +166,6 @@ take-checked-spec =
     tie.close
     (tie.spec
     (search needs)
-    (search needs)
-    event
     (search needs)
     whole
     (search needs)
@@ -164,6 +182,7 @@ take-checked-spec =
     (search needs)
     (search needs)
     life
+    (search needs)
     (search needs)
     (search needs)
     take-ordinary-requires

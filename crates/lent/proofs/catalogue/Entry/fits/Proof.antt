@@ -24,7 +24,7 @@ returns : tie.Need-returns
 unfolding entryFits
 returns c =
     let x = c .before .before .before .args .self .0 in
-    ap₂ (λ (n k : ℕ). ltb x 512 && Bool·beq (not (eqb n 0)) (eqb k 1 || eqb k 2)) (c .class .ensures) (c .before .before .kind .ensures)
+    ap₂ (λ (n : ℕ) (b : Bool). ltb x 512 && Bool·beq (not (eqb n 0)) b) (c .before .class .ensures) (c .has-class .ensures)
     ∙ ap (λ (y : Bool). ltb x 512 && y) (by-kind (eqb (classOf x) 0) (kindOf x) (omega arith))
 
 pub fits-spec : {M : Type 1} → statement M

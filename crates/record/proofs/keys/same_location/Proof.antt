@@ -7,10 +7,10 @@ use lib.Dec.{eqb}
 use borrow.Author.Tests.{eq-eqb, ne-eqb}
 use Rattle.location.specs.declared.Location.{Location}
 use Rattle.record.specs.Layout.{byteAt, twoAt, locationIn}
-use Rattle.record.specs.Matching.{sameLocation}
+use Rattle.record.specs.Keys.{sameLocation}
 use borrow.Author.Needs.{needs}
-use Rattle.record.proofs.freeing.same_location.Statement.{statement}
-use Rattle.record.proofs.freeing.same_location.Tie as tie
+use Rattle.record.proofs.keys.same_location.Statement.{statement}
+use Rattle.record.proofs.keys.same_location.Tie as tie
 
 by-code : (r : List ℕ) (l : Location) (b : Bool) → eqb (twoAt r 4) (l .code) ≡ b → sameLocation (locationIn r) l ≡ b && (eqb (byteAt r 32) (l .country) && eqb (byteAt r 33) (l .ltn))
 by-code r l b e = ap (λ (x : Bool). x && (eqb (byteAt r 32) (l .country) && eqb (byteAt r 33) (l .ltn))) e

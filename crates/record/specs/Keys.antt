@@ -1,12 +1,13 @@
--- The records that match a report (documents 01, "The message table", step 2, and 02, R-1; ISO 14819-1, clause 6.4).
-use Prim.Native.Nat.{ℕ}
+-- What a record and a report have in common if they match, but for their classes (documents 01, "The message table", step 2, and 02, R-1;
+-- ISO 14819-1, clause 6.4).
 use mathlib.Core.Bool.{Bool, not, _&&_}
 use mathlib.Core.List.{List}
+use Prim.Native.Nat.{ℕ}
 use lib.Dec.{eqb}
 use Rattle.location.specs.declared.Location.{Location}
 use Rattle.record.specs.declared.Service.{Service}
 use Rattle.record.specs.declared.Key.{Key}
-use Rattle.record.specs.Layout.{isFree, serviceIn, locationIn, directionIn, classIn}
+use Rattle.record.specs.Layout.{isFree, serviceIn, locationIn, directionIn}
 
 -- two services, and two locations, are the same if all their parts are
 abbrev pub sameService : (x y : Service) → Bool
@@ -15,7 +16,6 @@ sameService x y = eqb (x .country) (y .country) && (eqb (x .ltn) (y .ltn) && eqb
 abbrev pub sameLocation : (x y : Location) → Bool
 sameLocation x y = eqb (x .code) (y .code) && (eqb (x .country) (y .country) && eqb (x .ltn) (y .ltn))
 
--- a used record of the same service, location, direction and update class of the first event
-unfoldable pub matching : Key → List ℕ → Bool
-matching k r =
-    not (isFree r) && (sameService (serviceIn r) (k .service) && (sameLocation (locationIn r) (k .location) && (eqb (directionIn r) (k .direction) && eqb (classIn r) (k .class))))
+-- a used record of the same service, location and direction
+unfoldable pub alike : Key → List ℕ → Bool
+alike k r = not (isFree r) && (sameService (serviceIn r) (k .service) && (sameLocation (locationIn r) (k .location) && eqb (directionIn r) (k .direction)))

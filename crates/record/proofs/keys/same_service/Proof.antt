@@ -1,8 +1,8 @@
 -- The same tests.
 use mathlib.Core.Path.{refl}
 use borrow.Author.Needs.{needs}
-use Rattle.record.proofs.freeing.same_service.Statement.{statement}
-use Rattle.record.proofs.freeing.same_service.Tie as tie
+use Rattle.record.proofs.keys.same_service.Statement.{statement}
+use Rattle.record.proofs.keys.same_service.Tie as tie
 
 returns : tie.Need-returns
 returns c = refl

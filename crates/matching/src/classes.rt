@@ -1,0 +1,98 @@
+// The update classes of a report and of a record.
+ghost use mathlib.Core.Path.{_≡_};
+ghost use mathlib.Core.List.{List, _∷_};
+ghost use Prim.Native.Nat.{ℕ, _<_, min};
+ghost use Rattle.content.specs.declared.item.Item as declared;
+ghost use Rattle.content.specs.Stored.{limit, listed};
+ghost use Rattle.record.specs.Classes.{withClass, setOf};
+ghost use Rattle.matching.specs.Events.{additionalEvents};
+ghost use Rattle.matching.specs.Classes.{eventClasses, classesOf, classesIn};
+use content::item::Item;
+use content::items::Items;
+use lent::catalogue::Entry;
+use record::classes::Classes;
+use record_report::Answer;
+use record_report::read::read;
+use report::Report;
+
+// The label of an additional event.
+const ADDITIONAL: u16 = 9;
+
+// The classes of a report: those of all its events.
+pub fn of_report(report: Report, catalogue: &[u16]) -> Classes
+    ensures { λ s. ⌜ s .0 ≡ setOf (classesOf (now (catalogue .entry)) report) ⌝ }
+{
+    let head = report.head;
+    let items = report.items;
+    with_event(of_items(items, catalogue), head.event, catalogue)
+}
+
+// The classes of a record: those of the report that it reads as. Bytes that read as none have none.
+pub fn of_record(r: &[u8], catalogue: &[u16]) -> Classes
+    ensures { λ s. ⌜ s .0 ≡ setOf (classesIn (now (catalogue .entry)) (now (r .entry))) ⌝ }
+{
+    let reading = read(r);
+    let answer = reading.answer;
+    let report = reading.report;
+    match answer {
+        Answer::Free => Classes::new(),
+        Answer::Read => of_report(report, catalogue),
+        Answer::Refused(_) => Classes::new(),
+    }
+}
+
+// The classes of the additional events among items, from the last one to the first.
+fn of_items(items: Items, catalogue: &[u16]) -> Classes
+    ensures { λ s. ⌜ s .0 ≡ setOf (eventClasses (now (catalogue .entry)) (additionalEvents (listed items))) ⌝ }
+{
+    let mut classes = Classes::new();
+    let mut i = at_most_all(items.count);
+    while 0 < i {
+        i -= 1;
+        let item = items.places[i];
+        classes = with_item(classes, item, catalogue);
+    }
+    classes
+}
+
+// A number of items, or that of all places where it is above.
+fn at_most_all(count: usize) -> usize
+    ensures { λ n. ⌜ n ≡ min count limit ⌝ }
+{
+    if count < Items::LIMIT {
+        count
+    } else {
+        Items::LIMIT
+    }
+}
+
+// With the class of an item before those whose classes these are, if it is an additional event.
+fn with_item(classes: Classes, item: Item, catalogue: &[u16]) -> Classes
+    ensures { λ s. ⌜ ((its : List declared.Item) → classes .0 ≡ setOf (eventClasses (now (catalogue .entry)) (additionalEvents its)) → s .0 ≡ setOf (eventClasses (now (catalogue .entry)) (additionalEvents (item ∷ its)))) ⌝ }
+{
+    if item.label == ADDITIONAL {
+        with_event(classes, item.value, catalogue)
+    } else {
+        classes
+    }
+}
+
+// With the class of an event before those whose classes these are, if it has one.
+fn with_event(classes: Classes, event: u16, catalogue: &[u16]) -> Classes
+    ensures { λ s. ⌜ ((es : List ℕ) → classes .0 ≡ setOf (eventClasses (now (catalogue .entry)) es) → s .0 ≡ setOf (eventClasses (now (catalogue .entry)) (event ∷ es))) ⌝ }
+{
+    let entry = Entry::of_event(catalogue, event);
+    if entry.has_class() {
+        with_class(classes, entry.class())
+    } else {
+        classes
+    }
+}
+
+// With one class more.
+fn with_class(classes: Classes, class: u8) -> Classes
+    requires { ⌜ class < 64 ⌝ }
+    ensures { λ s. ⌜ s .0 ≡ withClass (classes .0) class ⌝ }
+{
+    Classes(classes.0 | 1 << class)
+}
