@@ -93,15 +93,27 @@ impl Content {
     /// Reads the items; refuses 7 what does not fit, 8 label 15.
     #[inline]
     pub fn read(self) -> Result<Items, Refusal> {
-        read_items(self.bits, u32::from(self.parts) * CONTENT_BITS)
+        read_items(self.bits, self.length())
+    }
+
+    /// Hands on the items one by one; refuses as [`Content::read`], after those that read.
+    #[inline]
+    pub fn each_item(self, each: impl FnMut(Item)) -> Result<(), Refusal> {
+        each_item(self.bits, self.length(), each)
     }
 
     /// Reads the real location and the items after it; refuses as [`Content::read`].
     #[inline]
     pub fn read_foreign(self) -> Result<(u16, Items), Refusal> {
         let real = (self.bits >> (128 - REAL_BITS)) as u16;
-        let left = u32::from(self.parts) * CONTENT_BITS - REAL_BITS;
+        let left = self.length() - REAL_BITS;
         Ok((real, read_items(self.bits << REAL_BITS, left)?))
+    }
+
+    /// The number of its bits.
+    #[inline]
+    fn length(self) -> u32 {
+        u32::from(self.parts) * CONTENT_BITS
     }
 
     /// Writes items in the fewest parts, at least one. Refuses 9 label 15, a value out of its
@@ -135,8 +147,18 @@ impl Content {
 
 /// Reads the items from the top of `left` bits, zero below.
 #[inline]
-fn read_items(mut bits: u128, mut left: u32) -> Result<Items, Refusal> {
+fn read_items(bits: u128, left: u32) -> Result<Items, Refusal> {
     let mut items = Items::NONE;
+    each_item(bits, left, |item| {
+        items.places[usize::from(items.count)] = item;
+        items.count += 1;
+    })?;
+    Ok(items)
+}
+
+/// Hands on the items from the top of `left` bits, zero below, one by one.
+#[inline]
+fn each_item(mut bits: u128, mut left: u32, mut each: impl FnMut(Item)) -> Result<(), Refusal> {
     while bits != 0 {
         require(left >= LABEL_BITS, Refusal::Content)?;
         let mut item = Item {
@@ -148,12 +170,11 @@ fn read_items(mut bits: u128, mut left: u32) -> Result<Items, Refusal> {
         // The label and up to 16 bits of value are the top of 32 bits.
         let top = (bits >> 96) as u32 & ((1 << (32 - LABEL_BITS)) - 1);
         item.value = (top >> (32 - LABEL_BITS - width)) as u16;
-        items.places[usize::from(items.count)] = item;
-        items.count += 1;
+        each(item);
         bits <<= LABEL_BITS + width;
         left -= LABEL_BITS + width;
     }
-    Ok(items)
+    Ok(())
 }
 
 /// The items from the top, zero below, and their number of bits, at most 112; else refuses 9.

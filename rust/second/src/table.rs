@@ -37,6 +37,9 @@ const COUNTRY: usize = 31;
 const LOCATION_COUNTRY: usize = 32;
 const LOCATION_LTN: usize = 33;
 
+/// Label of an additional event.
+const ADDITIONAL_EVENT: u8 = 9;
+
 /// The bits that are zero in bytes 2 to 11 of every record.
 const ZERO_BITS: u128 = u128::from_le_bytes([
     0, 0, 0xC0, 0xC0, 0, 0, 0, 0xF8, 0xFE, 0xF8, 0xFE, 0xF8, 0, 0, 0, 0,
@@ -119,6 +122,9 @@ enum Kind {
     Null,
 }
 
+/// A set of update classes, class c as bit c.
+type Classes = u64;
+
 /// An entry of the catalogue.
 #[derive(Clone, Copy)]
 struct Event(u16);
@@ -134,6 +140,15 @@ impl Event {
             1 => Kind::Ordinary,
             2 => Kind::Cancelling,
             _ => Kind::Null,
+        }
+    }
+
+    /// The set of its class; kinds 0 and 3 have none.
+    #[inline]
+    const fn classes(self) -> Classes {
+        match self.kind() {
+            Kind::Unknown | Kind::Null => 0,
+            Kind::Ordinary | Kind::Cancelling => 1 << self.class(),
         }
     }
 
@@ -159,6 +174,32 @@ impl Lists<'_> {
             && self.lives.len() == LIVES
             && self.catalogue.iter().fold(true, fits)
             && self.lives.iter().all(|&life| life <= clock::LONGEST_LIFE)
+    }
+
+    /// The entry of an event code.
+    #[inline]
+    fn event(&self, code: u16) -> Event {
+        Event(self.catalogue[usize::from(code)])
+    }
+
+    /// The classes of all events of a used record, the first and the additional ones. Refuses 7 or
+    /// 8 content that does not read as items.
+    #[inline]
+    fn classes(&self, record: &Record) -> Result<Classes, Refusal> {
+        let mut classes = self.event(number(record, EVENT)).classes();
+        content(record).each_item(|item| {
+            if item.label == ADDITIONAL_EVENT {
+                classes |= self.event(item.value).classes();
+            }
+        })?;
+        Ok(classes)
+    }
+
+    /// Whether a record is free, or its first event has a class and its content reads as items.
+    #[inline]
+    fn fit_record(&self, record: &Record) -> bool {
+        let has_class = || self.event(number(record, EVENT)).classes() != 0;
+        is_free(record) || has_class() && self.classes(record).is_ok()
     }
 }
 
@@ -188,6 +229,15 @@ fn is_free(record: &Record) -> bool {
 #[inline]
 fn expiry(record: &Record) -> u32 {
     (front(record) >> (8 * EXPIRY)) as u32
+}
+
+/// The content of a used record, of no parts if it has one group.
+#[inline]
+fn content(record: &Record) -> Content {
+    Content {
+        parts: record[GROUPS] - 1,
+        bits: tail(record) >> 16 << 16,
+    }
 }
 
 #[inline]
@@ -244,9 +294,10 @@ pub fn expire(table: &mut [u8], last: &mut Utc, minute: Utc) -> Result<usize, Re
     Ok(expired)
 }
 
-/// Takes a report. Refuses, in this order, a malformed table, catalogue or lives (10), an unfit
-/// report, service or offset (9), the minute (13), a location whose code is an FLT code (12), an
-/// unknown event (11) and a lack of room (14).
+/// Takes a report. Refuses, in this order, a malformed table, catalogue or lives, or a used record
+/// whose content does not read as items or whose first event has no class (10), an unfit report,
+/// service or offset (9), the minute (13), a location whose code is an FLT code (12), an unknown
+/// event (11) and a lack of room (14).
 #[inline]
 pub fn take(
     table: &mut [u8],
@@ -254,8 +305,9 @@ pub fn take(
     last: &mut Utc,
     arrival: Arrival,
 ) -> Result<Taken, Refusal> {
-    records(table)?;
-    require(lists.fit(), Refusal::Malformed)?;
+    let records = records(table)?;
+    let fit = lists.fit() && records.iter().all(|record| lists.fit_record(record));
+    require(fit, Refusal::Malformed)?;
     let Arrival {
         report,
         service,
@@ -268,7 +320,7 @@ pub fn take(
     check_minute(*last, minute)?;
     let location = report.location(service.country, service.ltn);
     require(!is_flt(location.code), Refusal::Foreign)?;
-    let event = Event(lists.catalogue[usize::from(report.head.event)]);
+    let event = lists.event(report.head.event);
     let kind = event.kind();
     require(kind != Kind::Unknown, Refusal::UnknownEvent)?;
 
@@ -284,13 +336,15 @@ pub fn take(
         expiry: minute.expiry(lto, life)?.0,
     };
     let new = entry.write(location, packed, event.class());
-    let (new_front, new_tail) = (front(&new) & MATCH_BITS, tail(&new) as u16);
-    let new_location = number(&new, LOCATION_COUNTRY);
+    let new_front = front(&new) & MATCH_BITS;
+    let new_classes = lists.classes(&new)?;
     let matches = |record: &Record| {
         kind != Kind::Null
             && front(record) & MATCH_BITS == new_front
-            && tail(record) as u16 == new_tail
-            && number(record, LOCATION_COUNTRY) == new_location
+            && record[COUNTRY..] == new[COUNTRY..]
+            && lists
+                .classes(record)
+                .is_ok_and(|classes| classes & new_classes != 0)
     };
 
     // With no record free at the end none was freed, so refusal 14 finds the table as it was.
@@ -368,11 +422,7 @@ fn entry_of(record: &Record) -> Result<Option<Entry>, Refusal> {
     };
     let report = if record[GROUPS] > 1 {
         // A multi-group report's duration and diversion are what its items say.
-        let content = Content {
-            parts: record[GROUPS] - 1,
-            bits: tail(record) >> 16 << 16,
-        };
-        Report::of_items(head, real_location, content.read()?)
+        Report::of_items(head, real_location, content(record).read()?)
     } else {
         Report {
             real_location,

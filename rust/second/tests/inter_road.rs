@@ -2,47 +2,27 @@
 
 #![deny(warnings)]
 
+use common::{head, stored, Table, MINUTE};
 use second::assembler::{Answer, Assembler};
-use second::clock::Utc;
-use second::content::{Item, Items};
 use second::drm::{self, Unit};
 use second::recording::{self, Frame};
 use second::report::Report;
-use second::table::{self, Arrival, Lists, Service, Taken, EVENTS, LIVES, RECORD};
+use second::table::{read_record, RECORD};
 use second::word::Head;
 use second::Refusal;
 
-const SERVICE: Service = Service {
-    country: 13,
-    ltn: 17,
-    sid: 3,
-};
+mod common;
+
 /// FLT codes: country 13 and table 1, country 1 and table 9, and the service's own.
 const FLT: u16 = 0xFF41;
 const OTHER_FLT: u16 = 0xFC49;
 const OWN_FLT: u16 = 0xFF51;
 /// The first group of all worked messages.
 const FIRST: u64 = 0x02_8991_FF41;
-const MINUTE: u32 = 100;
-
-fn items(pairs: &[(u8, u16)]) -> Items {
-    let mut items = Items::NONE;
-    items.count = pairs.len() as u8;
-    for (place, &(label, value)) in items.places.iter_mut().zip(pairs) {
-        *place = Item { label, value };
-    }
-    items
-}
 
 /// A multi-group report of event 401.
 fn multi(location: u16, real_location: u16, pairs: &[(u8, u16)]) -> Report {
-    let head = Head {
-        direction: 0,
-        extent: 1,
-        event: 401,
-        location,
-    };
-    Report::of_items(head, real_location, items(pairs))
+    common::multi(head(401, location), real_location, pairs)
 }
 
 /// The report of word 0x0B5065FF41.
@@ -75,57 +55,9 @@ fn written(report: &Report, index: u8) -> Result<Vec<u64>, Refusal> {
     Ok(out[..count].to_vec())
 }
 
-/// A table of two records, beside it event 401 (ordinary, class 9) and lives of an hour.
-struct Table {
-    bytes: Vec<u8>,
-    last: Utc,
-}
-
-impl Table {
-    fn new() -> Self {
-        Self {
-            bytes: vec![0; 2 * RECORD],
-            last: Utc(0),
-        }
-    }
-
-    fn take_at(&mut self, report: &Report, minute: u32) -> Result<Taken, Refusal> {
-        let mut catalogue = [0; EVENTS];
-        catalogue[401] = 1 << 6 | 9;
-        let lists = Lists {
-            catalogue: &catalogue,
-            lives: &[60; LIVES],
-        };
-        let arrival = Arrival {
-            report,
-            service: SERVICE,
-            lto: 0,
-            minute: Utc(minute),
-        };
-        table::take(&mut self.bytes, lists, &mut self.last, arrival)
-    }
-
-    fn take(&mut self, report: &Report) -> Result<Taken, Refusal> {
-        self.take_at(report, MINUTE)
-    }
-
-    fn record(&self, i: usize) -> &[u8] {
-        &self.bytes[RECORD * i..][..RECORD]
-    }
-
-    fn report(&self, i: usize) -> Report {
-        let entry = table::read(&self.bytes, i).unwrap().unwrap();
-        assert_eq!(entry.service, SERVICE);
-        entry.report
-    }
-}
-
-fn stored(matched: usize, place: usize) -> Result<Taken, Refusal> {
-    Ok(Taken {
-        expired: 0,
-        matched,
-        place: Some(place),
-    })
+/// A table of two records, with event 401 (ordinary, class 9).
+fn table() -> Table {
+    Table::new(2, &[(401, 0x49)])
 }
 
 #[test]
@@ -234,7 +166,7 @@ fn the_listing_prints_the_code() {
 
 #[test]
 fn the_record_and_its_home_neighbour() {
-    let mut table = Table::new();
+    let mut table = table();
     let foreign = multi(FLT, 500, &[(3, 10), (0, 2)]);
     assert_eq!(table.take(&foreign), stored(0, 0));
     let mut bytes = [0; RECORD];
@@ -262,7 +194,7 @@ fn the_record_and_its_home_neighbour() {
 
 #[test]
 fn own_flt_code() {
-    let mut table = Table::new();
+    let mut table = table();
     let home = multi(500, 0, &[(3, 10), (0, 2)]);
     assert_eq!(table.take(&home), stored(0, 0));
     let bytes = table.record(0).to_vec();
@@ -281,7 +213,7 @@ fn groups_for_the_items_alone() {
         (vec![(14, 0); 8], 3),
         (vec![(14, 0); 24], 5),
     ] {
-        let mut table = Table::new();
+        let mut table = table();
         let report = multi(FLT, 0, &pairs);
         assert_eq!(table.take(&report), stored(0, 0));
         assert_eq!(table.record(0)[1], groups);
@@ -295,7 +227,7 @@ fn a_record_of_one_group_with_a_foreign_table() {
     record[..12].copy_from_slice(&[1, 1, 3, 17, 0xF4, 1, 101, 0, 1, 2, 0, 3]);
     record[12] = 1;
     record[30..].copy_from_slice(&[9, 13, 13, 1]);
-    let entry = table::read_record(&record).unwrap().unwrap();
+    let entry = read_record(&record).unwrap().unwrap();
     let report = Report {
         real_location: 500,
         ..single()
@@ -306,7 +238,7 @@ fn a_record_of_one_group_with_a_foreign_table() {
     record[5] = 0xFF;
     for groups in [1, 2] {
         record[1] = groups;
-        let report = table::read_record(&record).unwrap().unwrap().report;
+        let report = read_record(&record).unwrap().unwrap().report;
         assert_eq!((report.head.location, report.real_location), (0xFFF4, 0));
     }
 }
@@ -314,7 +246,7 @@ fn a_record_of_one_group_with_a_foreign_table() {
 #[test]
 fn refusals_in_order() {
     let foreign = Err(Refusal::Foreign);
-    let mut table = Table::new();
+    let mut table = table();
     assert_eq!(table.take(&multi(FLT, 0xFC00, &[])), foreign);
     assert_eq!(table.take(&multi(FLT, 0xFBFF, &[])), stored(0, 0));
     assert_eq!(table.take(&multi(OWN_FLT, 0xFFFF, &[])), foreign);

@@ -1,0 +1,100 @@
+//! What the worked cases of the table share.
+
+use second::clock::Utc;
+use second::content::{Item, Items};
+use second::report::Report;
+use second::table::{self, Arrival, Lists, Service, Taken, EVENTS, LIVES, RECORD};
+use second::word::Head;
+use second::Refusal;
+
+pub const SERVICE: Service = Service {
+    country: 13,
+    ltn: 17,
+    sid: 3,
+};
+pub const MINUTE: u32 = 100;
+
+/// Direction and extent of the worked multi-group messages.
+pub fn head(event: u16, location: u16) -> Head {
+    Head {
+        direction: 0,
+        extent: 1,
+        event,
+        location,
+    }
+}
+
+/// A multi-group report of these items.
+pub fn multi(head: Head, real_location: u16, pairs: &[(u8, u16)]) -> Report {
+    let mut items = Items::NONE;
+    items.count = pairs.len() as u8;
+    for (place, &(label, value)) in items.places.iter_mut().zip(pairs) {
+        *place = Item { label, value };
+    }
+    Report::of_items(head, real_location, items)
+}
+
+/// A table, beside it a catalogue and lives of an hour.
+pub struct Table {
+    pub bytes: Vec<u8>,
+    last: Utc,
+    catalogue: [u16; EVENTS],
+}
+
+impl Table {
+    /// A table of free records with these events and their entries; the others are unknown.
+    pub fn new(records: usize, events: &[(usize, u16)]) -> Self {
+        let mut catalogue = [0; EVENTS];
+        for &(event, entry) in events {
+            catalogue[event] = entry;
+        }
+        Self {
+            bytes: vec![0; records * RECORD],
+            last: Utc(0),
+            catalogue,
+        }
+    }
+
+    /// A take; a refused one must leave the table and the clock.
+    pub fn take_at(&mut self, report: &Report, minute: u32) -> Result<Taken, Refusal> {
+        let lists = Lists {
+            catalogue: &self.catalogue,
+            lives: &[60; LIVES],
+        };
+        let arrival = Arrival {
+            report,
+            service: SERVICE,
+            lto: 0,
+            minute: Utc(minute),
+        };
+        let before = (self.bytes.clone(), self.last);
+        let taken = table::take(&mut self.bytes, lists, &mut self.last, arrival);
+        if taken.is_err() {
+            assert_eq!((&self.bytes, self.last), (&before.0, before.1));
+        }
+        taken
+    }
+
+    pub fn take(&mut self, report: &Report) -> Result<Taken, Refusal> {
+        self.take_at(report, MINUTE)
+    }
+
+    pub fn record(&self, i: usize) -> &[u8] {
+        &self.bytes[RECORD * i..][..RECORD]
+    }
+
+    pub fn report(&self, i: usize) -> Report {
+        let entry = table::read(&self.bytes, i).unwrap().unwrap();
+        assert_eq!(entry.service, SERVICE);
+        entry.report
+    }
+}
+
+/// A take that stored, and that no record had expired for.
+pub fn stored(matched: usize, place: usize) -> Result<Taken, Refusal> {
+    Ok(Taken {
+        expired: 0,
+        matched,
+        place: Some(place),
+    })
+}
