@@ -12,6 +12,7 @@ use tally::Tally;
 
 mod blocks;
 mod carriers;
+mod classes;
 mod fib_write;
 mod fibs;
 mod fields;
@@ -66,8 +67,10 @@ impl Trial {
         times(50, Self::check_word);
         times(100, Self::expiry);
         times(20, Self::transmission);
-        times(200, Self::record_byte);
         let lists = self.lists();
+        for _ in 0..200 {
+            self.record_byte(&lists);
+        }
         for _ in 0..80 {
             self.table_walk(&lists);
         }

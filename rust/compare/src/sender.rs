@@ -13,6 +13,8 @@ const SEPARATOR: Item = Item {
 };
 /// The item that sets the diversion.
 const DIVERSION: Item = Item { label: 1, value: 5 };
+/// Label of an additional event.
+pub const ADDITIONAL_EVENT: u16 = 9;
 /// The most bits of content.
 pub const CONTENT_BITS: usize = 112;
 /// Bits of a real location, which stand before the items.
@@ -279,10 +281,35 @@ pub fn random_items(random: &mut Random, most: usize) -> Vec<Item> {
             items.push(SEPARATOR);
         }
     }
+    trim(&mut items);
+    items
+}
+
+/// Drops items (0, 0) at the end, which no reader finds there.
+fn trim(items: &mut Vec<Item>) {
     while items.last() == Some(&Item::default()) {
         items.pop();
     }
-    items
+}
+
+/// A number of so many bits at the front and what follows it, if there are as many.
+fn front(bits: &[bool], width: usize) -> Option<(u16, &[bool])> {
+    let (front, rest) = bits.split_at_checked(width)?;
+    let number = |n, &bit: &bool| 2 * n + u16::from(bit);
+    Some((front.iter().fold(0, number), rest))
+}
+
+/// The items that bits are, if they are items.
+fn items_of(mut bits: &[bool]) -> Option<Vec<Item>> {
+    let mut items = Vec::new();
+    while bits.contains(&true) {
+        let (label, rest) = front(bits, 4)?;
+        let width = *WIDTHS.get(usize::from(label))?;
+        let (value, rest) = front(rest, width as usize)?;
+        items.push(Item { label, value });
+        bits = rest;
+    }
+    Some(items)
 }
 
 /// Whether a report is INTER-ROAD.
@@ -336,11 +363,10 @@ fn words_of(head: Head, ci: u8, parts: &[u32]) -> Vec<u64> {
     words
 }
 
-/// The head and the words of a message whose content is refused after some items, and the refusal.
-pub fn refused_message(random: &mut Random) -> (Head, Vec<u64>, u8) {
-    let report = random_multi(random);
-    let mut bits = content(&report);
-    let groups = parts(&report).len();
+/// Adds to the bits of content what is refused after them, and gives the refusal; none if there is
+/// no room.
+fn refuse(random: &mut Random, bits: &mut Bits) -> Option<u8> {
+    let groups = parts_of(bits.clone()).len();
     let mut left = 28 * groups - bits.0.len();
     if left == 0 && groups < 4 {
         left = 28;
@@ -349,7 +375,7 @@ pub fn refused_message(random: &mut Random) -> (Head, Vec<u64>, u8) {
     let long = |label: &usize| 4 + WIDTHS[*label] as usize > left;
     let long: Vec<_> = (1..WIDTHS.len()).filter(long).collect();
     let refusal = match left {
-        0 => return refused_message(random),
+        0 => return None,
         1..4 => {
             bits.add(1 + random.below((1 << left) - 1), left);
             7
@@ -365,8 +391,26 @@ pub fn refused_message(random: &mut Random) -> (Head, Vec<u64>, u8) {
             7
         }
     };
+    Some(refusal)
+}
+
+/// The head and the words of a message whose content is refused after some items, and the refusal.
+pub fn refused_message(random: &mut Random) -> (Head, Vec<u64>, u8) {
+    let report = random_multi(random);
+    let mut bits = content(&report);
+    let Some(refusal) = refuse(random, &mut bits) else {
+        return refused_message(random);
+    };
     let words = words_of(report.head, random.ci(), &parts_of(bits));
     (report.head, words, refusal)
+}
+
+/// The parts of items alone after which the content is refused, if there is room.
+pub fn refused_parts(random: &mut Random) -> Vec<u32> {
+    let mut bits = Bits::default();
+    bits.add_items(&random_items(random, CONTENT_BITS));
+    refuse(random, &mut bits);
+    parts_of(bits)
 }
 
 /// A message: its report and its words.
@@ -403,6 +447,22 @@ pub fn multi_of(random: &mut Random, head: Head) -> Report {
     };
     let items = random_items(random, item_bits(head));
     multi_report(head, real, &items)
+}
+
+/// The multi-group report with an additional event among its items, of which the last ones make
+/// room.
+pub fn with_event(random: &mut Random, report: Report, event: u16) -> Report {
+    let added = Item {
+        label: ADDITIONAL_EVENT,
+        value: event,
+    };
+    let mut items = report.items[..report.item_count].to_vec();
+    while length(&items) + length(&[added]) > item_bits(report.head) {
+        items.pop();
+    }
+    items.insert(random.index(items.len() + 1), added);
+    trim(&mut items);
+    multi_report(report.head, report.real_location, &items)
 }
 
 /// A multi-group report that fits.
@@ -598,6 +658,16 @@ pub fn read_back(mut report: Report, service: Service) -> Report {
         report.real_location = 0;
     }
     report
+}
+
+/// The items that a record has as its content, none if that does not read as items.
+pub fn record_items(record: &[u8]) -> Option<Vec<Item>> {
+    let bytes: Vec<_> = record[16..30]
+        .iter()
+        .map(|&byte| (byte.into(), 8))
+        .collect();
+    let length = 28 * usize::from(record[1]).saturating_sub(1);
+    items_of(&Bits::of(&bytes).0[..length.min(CONTENT_BITS)])
 }
 
 /// The bytes of a record.

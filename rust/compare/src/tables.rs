@@ -6,6 +6,7 @@ use std::ops::Range;
 use proved::RECORD_BYTES as RECORD;
 use proved::{ExpiryAnswer, Head, Report, Service, TableAnswer, TableReading, Taking};
 
+use crate::classes::{self, Classes, Fault, Meeting};
 use crate::fields::Fields;
 use crate::sender::{self, Location, Message};
 use crate::tally::Call;
@@ -23,9 +24,29 @@ pub struct Lists {
 const COUNTRIES: [u8; 2] = [1, 15];
 const NUMBERS: [u8; 2] = [0, 63];
 const LOCATIONS: [u16; 4] = [1, 0x0100, 0xFBFF, 0];
-const CLASSES: [u16; 3] = [1, 2, 63];
+const CLASSES: [u16; 5] = [1, 2, 31, 33, 63];
 /// Codes at the first FLT code.
 const NEAR_FLT: [u16; 3] = [0xFBFF, 0xFC00, 0xFFFF];
+
+/// What a run must reach of takes that are refused for a record alone.
+const FAULT_MARKS: [(Fault, [&str; 3]); 2] = [
+    (
+        Fault::Content,
+        [
+            "take: 10 for content that does not read, expiry accepted",
+            "take: 10 for content that does not read, all about to expire",
+            "take: 10 for content that does not read, a null report",
+        ],
+    ),
+    (
+        Fault::Event,
+        [
+            "take: 10 for a first event without a class, expiry accepted",
+            "take: 10 for a first event without a class, all about to expire",
+            "take: 10 for a first event without a class, a null report",
+        ],
+    ),
+];
 
 /// The number of these bytes of a record.
 fn number(record: &[u8], range: Range<usize>) -> u32 {
@@ -56,49 +77,91 @@ fn at_home(location: Location, service: Service) -> bool {
     (location.country, location.ltn) == (service.country, service.ltn)
 }
 
+/// Gives a record these parts as its content.
+fn set_content(record: &mut [u8; RECORD], parts: &[u32]) {
+    let mut fields: Vec<_> = parts.iter().map(|&part| (part.into(), 28)).collect();
+    fields.resize(4, (0, 28));
+    record[1] = 1 + parts.len() as u8;
+    record[16..30].copy_from_slice(&sender::Bits::of(&fields).bytes());
+}
+
+/// The used records that a take refuses: why, and their expiries.
+fn faults(table: &[u8], catalogue: &[u16]) -> Vec<(Fault, u32)> {
+    let records = table.as_chunks::<RECORD>().0.iter();
+    let fault = |record: &[u8; RECORD]| {
+        let fault = Classes::of_record(catalogue, record).err()?;
+        Some((fault, number(record, 12..16)))
+    };
+    let used = records.filter(|record| record[0] == 1);
+    used.filter_map(fault).collect()
+}
+
 /// What an accepted take answers and leaves.
+#[derive(Default)]
 struct Meant {
     answer: TableAnswer,
     table: Vec<u8>,
     /// The locations of records that would match but for the table of their location.
     near: Vec<Location>,
+    /// The remaining records of the same service, location and direction, and whether their class
+    /// byte is the class of the report's first event.
+    met: Vec<(Meeting, bool)>,
 }
 
 /// What an accepted take means, by the rules' three steps over the bytes of a record one after the
 /// other.
 fn meant_by(before: &[u8], taking: &Taking) -> Meant {
     let Taking {
+        catalogue,
         report,
         service,
         minute,
         lto,
         ..
     } = *taking;
-    let entry = taking.catalogue[usize::from(report.head.event)];
+    let entry = catalogue[usize::from(report.head.event)];
     let (kind, class) = (entry >> 6 & 3, entry as u8 & 63);
     let duration_type = usize::from(entry >> 8 & 1);
     let life = taking.lives[8 * duration_type + usize::from(report.duration)];
     let location = sender::location(&report, service);
-    let mut answer = TableAnswer::default();
-    let mut table = before.to_vec();
-    let mut near = Vec::new();
+    let classes = Classes::of_report(catalogue, &report);
+    let mut meant = Meant {
+        table: before.to_vec(),
+        ..Meant::default()
+    };
+    let Meant {
+        answer,
+        table,
+        near,
+        met,
+    } = &mut meant;
     for record in table.chunks_mut(RECORD).filter(|record| record[0] == 1) {
+        if number(record, 12..16) <= minute {
+            answer.expired += 1;
+            record.fill(0);
+            continue;
+        }
         let of = location_of(record);
-        let expired = number(record, 12..16) <= minute;
         let alike = (kind == 1 || kind == 2)
             && service_of(record) == service
-            && of.code == location.code
-            && (record[8], record[30]) == (report.head.direction, class);
-        let matched = alike && (of.country, of.ltn) == (location.country, location.ltn);
-        if expired {
-            answer.expired += 1;
-        } else if matched {
-            answer.matched += 1;
-        } else if alike {
-            near.push(of);
+            && (of.code, record[8]) == (location.code, report.head.direction);
+        if !alike {
+            continue;
         }
-        if expired || matched {
+        // No record is at fault where a take is accepted.
+        let Ok(of_record) = Classes::of_record(catalogue, record) else {
+            continue;
+        };
+        let meeting = classes.meet(&of_record);
+        let same_table = of == location;
+        if same_table {
+            met.push((meeting, record[30] == class));
+        }
+        if meeting.matches() && same_table {
+            answer.matched += 1;
             record.fill(0);
+        } else if meeting.matches() {
+            near.push(of);
         }
     }
     let free = table.chunks(RECORD).position(|record| record[0] == 0);
@@ -109,11 +172,7 @@ fn meant_by(before: &[u8], taking: &Taking) -> Meant {
         answer.stored = 1;
         answer.place = place;
     }
-    Meant {
-        answer,
-        table,
-        near,
-    }
+    meant
 }
 
 impl Trial {
@@ -153,25 +212,45 @@ impl Trial {
         Lists { catalogue, lives }
     }
 
-    /// A record, free or used, of which the content need not read as items.
-    fn record(&mut self, minute: u32) -> [u8; RECORD] {
+    /// An event of one of these kinds.
+    fn event(&mut self, lists: &Lists, kinds: &[u16]) -> u16 {
+        loop {
+            let event = self.random.short(11);
+            let kind = classes::kind(&lists.catalogue, event);
+            if kind.is_some_and(|kind| kinds.contains(&kind)) {
+                return event;
+            }
+        }
+    }
+
+    /// A report that fits, often with additional events if it is of several groups.
+    fn with_events(&mut self, mut report: Report, lists: &Lists) -> Report {
+        if report.form == 1 && self.random.once_in(2) {
+            for _ in 0..=self.random.below(3) {
+                let kinds: &[u16] = self.random.pick(&[&[0, 3], &[1, 2], &[1, 2]]);
+                let event = self.event(lists, kinds);
+                report = sender::with_event(&mut self.random, report, event);
+            }
+        }
+        report
+    }
+
+    /// A used record that a take accepts. Its class byte need not be its event's class.
+    fn record(&mut self, minute: u32, lists: &Lists) -> [u8; RECORD] {
+        let event = self.event(lists, &[1, 2]);
+        let report = Message::random(&mut self.random).report;
+        let report = self.with_events(report, lists);
         let random = &mut self.random;
         let mut record = [0; RECORD];
-        let report = Message::random(random).report;
         let mut content = match report.form {
             0 => vec![],
             _ => sender::item_parts(&report.items[..report.item_count]),
         };
-        if random.once_in(4) {
-            let groups = 1 + random.index(5);
-            content = (1..groups).map(|_| random.bits(28) as u32).collect();
-        } else if report.form == 1 && random.once_in(4) {
+        if report.form == 1 && random.once_in(4) {
             // More groups than the fewest.
             content.resize((content.len() + random.index(4)).min(4), 0);
         }
-        let groups = 1 + content.len();
-        content.resize(4, 0);
-        let fields: Vec<_> = content.iter().map(|&part| (part.into(), 28)).collect();
+        set_content(&mut record, &content);
         let near = minute.wrapping_add(random.below(6) as u32).wrapping_sub(2);
         let expiry = match random.below(4) {
             0 => random.number() as u32,
@@ -179,7 +258,6 @@ impl Trial {
             _ => near,
         };
         record[0] = 1;
-        record[1] = groups as u8;
         record[2] = random.pick(&NUMBERS);
         record[3] = random.pick(&NUMBERS);
         let location = match random.once_in(16) {
@@ -187,7 +265,6 @@ impl Trial {
             false => random.pick(&LOCATIONS),
         };
         record[4..6].copy_from_slice(&location.to_le_bytes());
-        let event = random.short(11);
         record[6..8].copy_from_slice(&event.to_le_bytes());
         record[8] = random.byte(1);
         record[9] = random.byte(3);
@@ -198,11 +275,28 @@ impl Trial {
             record[11] = random.byte(3);
         }
         record[12..16].copy_from_slice(&expiry.max(1).to_le_bytes());
-        record[16..30].copy_from_slice(&sender::Bits::of(&fields).bytes());
         record[30] = random.pick(&CLASSES) as u8;
         record[31] = random.pick(&COUNTRIES);
         self.locate(&mut record);
         record
+    }
+
+    /// Gives a used record content that mostly does not read as items, or a first event without a
+    /// class.
+    fn spoil(&mut self, record: &mut [u8; RECORD], lists: &Lists) {
+        let random = &mut self.random;
+        match random.below(4) {
+            0 => {
+                let groups = random.index(5);
+                let parts: Vec<_> = (0..groups).map(|_| random.bits(28) as u32).collect();
+                set_content(record, &parts);
+            }
+            1 => set_content(record, &sender::refused_parts(random)),
+            _ => {
+                let event = self.event(lists, &[0, 3]);
+                record[6..8].copy_from_slice(&event.to_le_bytes());
+            }
+        }
     }
 
     /// Sets the table of a record's location: the service's own, or any of a few.
@@ -214,8 +308,9 @@ impl Trial {
         };
     }
 
-    /// A table around a minute, often malformed.
-    pub fn table(&mut self, minute: u32, well_formed: bool) -> Vec<u8> {
+    /// A table around a minute, now and then with records for which a take refuses it; often
+    /// malformed if it need not be well-formed.
+    fn table(&mut self, minute: u32, lists: &Lists, well_formed: bool) -> Vec<u8> {
         let sizes: &[usize] = match self.random.below(40) {
             0 => &[1024],
             1 => &[256, 64, 1023],
@@ -225,7 +320,7 @@ impl Trial {
         let count = self.random.pick(sizes);
         let free = self.random.pick(&[1, 2, 10, 1000]);
         let mut table = vec![0; RECORD * count];
-        let mut last = self.record(minute);
+        let mut last = self.record(minute, lists);
         for record in table.chunks_mut(RECORD) {
             if self.random.once_in(free) {
                 continue;
@@ -236,9 +331,17 @@ impl Trial {
                     self.locate(&mut last);
                 }
             } else {
-                last = self.record(minute);
+                last = self.record(minute, lists);
             }
             record.copy_from_slice(&last);
+        }
+        if self.random.once_in(4) {
+            for _ in 0..=self.random.below(2) {
+                let record = &mut table.as_chunks_mut::<RECORD>().0[self.random.index(count)];
+                if record[0] == 1 {
+                    self.spoil(record, lists);
+                }
+            }
         }
         if !well_formed {
             let random = &mut self.random;
@@ -286,11 +389,8 @@ impl Trial {
         }
     }
 
-    /// A report that records of [`Trial::table`] may match, now and then unfit.
-    fn arrival(&mut self) -> Report {
-        if self.random.once_in(8) {
-            return self.any_report();
-        }
+    /// A report that fits and that records of [`Trial::table`] may match.
+    fn arrival(&mut self, lists: &Lists) -> Report {
         let random = &mut self.random;
         let code = if random.once_in(16) {
             random.pick(&NEAR_FLT)
@@ -299,26 +399,26 @@ impl Trial {
         };
         let mut head = sender::random_head(random);
         head.location = code;
-        if random.once_in(3) {
+        let abroad = random.once_in(3);
+        if abroad {
             head.location = sender::flt_code(random.pick(&COUNTRIES), random.pick(&NUMBERS));
-            if !random.once_in(8) {
-                let report = sender::multi_of(random, head);
-                return Report {
-                    real_location: code,
-                    ..report
-                };
+        }
+        let report = if random.once_in(if abroad { 8 } else { 3 }) {
+            Report {
+                head,
+                ..Message::single(random).report
             }
-        } else if !random.once_in(3) {
-            return sender::multi_of(random, head);
-        }
-        Report {
-            head,
-            ..Message::single(random).report
-        }
+        } else {
+            Report {
+                real_location: if abroad { code } else { 0 },
+                ..sender::multi_of(random, head)
+            }
+        };
+        self.with_events(report, lists)
     }
 
-    /// The report with the code, the direction and the class of a record, and in an INTER-ROAD one
-    /// mostly the table of its location.
+    /// The report with the code and the direction of a record, mostly with an event of one of its
+    /// classes, and in an INTER-ROAD one mostly the table of its location.
     fn alike(&mut self, mut report: Report, record: &[u8], lists: &Lists) -> Report {
         let random = &mut self.random;
         let location = location_of(record);
@@ -331,14 +431,22 @@ impl Trial {
             report.head.location = location.code;
         }
         report.head.direction = record[8];
-        let class = |event: &u16| {
-            let entry = lists.catalogue.get(usize::from(*event));
-            entry.is_some_and(|entry| entry & 63 == record[30].into())
+        let Ok(classes) = Classes::of_record(&lists.catalogue, record) else {
+            return report;
         };
-        let events: Vec<_> = (0..64).map(|_| random.short(11)).filter(class).collect();
-        if !events.is_empty() {
-            report.head.event = random.pick(&events);
+        let shares = |event: &u16| {
+            let class = classes::class(&lists.catalogue, *event);
+            class.is_some_and(|class| classes.contains(class))
+        };
+        let events: Vec<_> = (0..64).map(|_| random.short(11)).filter(shares).collect();
+        if events.is_empty() || random.once_in(4) {
+            return report;
         }
+        let event = random.pick(&events);
+        if report.form == 1 && random.once_in(2) {
+            return sender::with_event(random, report, event);
+        }
+        report.head.event = event;
         report
     }
 
@@ -346,26 +454,27 @@ impl Trial {
     pub fn table_walk(&mut self, lists: &Lists) {
         let mut clock = self.minute();
         let well_formed = !self.random.once_in(5);
-        let mut table = self.table(clock, well_formed);
+        let mut table = self.table(clock, lists, well_formed);
         let calls = if well_formed { 8 } else { 2 };
         for _ in 0..calls {
             match self.random.below(6) {
                 0 => self.expire(&mut table, &mut clock),
                 1 => self.read(&table),
-                _ => self.take(&mut table, &mut clock, lists),
+                _ => self.take(&mut table, &mut clock, lists, well_formed),
             }
         }
     }
 
-    fn take(&mut self, table: &mut Vec<u8>, clock: &mut u32, lists: &Lists) {
+    fn take(&mut self, table: &mut Vec<u8>, clock: &mut u32, lists: &Lists, well_formed: bool) {
+        let mut report = self.arrival(lists);
         let damaged;
-        let lists = if self.random.once_in(20) {
+        let whole = !self.random.once_in(20);
+        let lists = if whole {
+            lists
+        } else {
             damaged = self.damaged(lists);
             &damaged
-        } else {
-            lists
         };
-        let mut report = self.arrival();
         let minute = self.next_minute(*clock);
         let random = &mut self.random;
         let mut service = Service {
@@ -375,10 +484,13 @@ impl Trial {
         };
         let records = table.as_chunks::<RECORD>().0.iter();
         let used: Vec<_> = records.filter(|record| record[0] == 1).collect();
-        if !used.is_empty() && random.once_in(3) {
+        if !used.is_empty() && random.once_in(2) {
             let record = random.pick(&used);
             service = service_of(record);
             report = self.alike(report, record, lists);
+        }
+        if self.random.once_in(8) {
+            report = self.any_report();
         }
         let random = &mut self.random;
         if random.once_in(16) {
@@ -404,20 +516,21 @@ impl Trial {
         let input = (&entry, &taking);
         self.tally
             .agree_lent(Call::TableTake, &input, &entry, (proved, &a), (second, &b));
+        self.expect_faults(&entry, &taking, proved.refusal, well_formed && whole);
         let location = sender::location(&report, service);
         let inter_road = sender::is_inter_road(&report);
         let home = at_home(location, service);
-        let mut near = vec![];
+        let mut meant = Meant::default();
         if proved.refusal == 0 {
-            let meant = meant_by(&entry.0, &taking);
+            meant = meant_by(&entry.0, &taking);
             self.tally.expect(
                 Call::TableTake,
                 &input,
                 (proved, &a.0),
                 (meant.answer, &meant.table),
             );
-            near = meant.near;
         }
+        self.mark_classes(&taking, &meant);
         if matches!(proved.refusal, 0 | 11 | 12 | 14) {
             let foreign = proved.refusal == 12;
             let meant = sender::is_flt(location.code);
@@ -449,9 +562,10 @@ impl Trial {
         );
         let own = inter_road && home;
         tally.mark("take: own FLT code, a home record matched", own && matched);
-        let near_home = near.iter().any(|&near| at_home(near, service));
+        let mut near = meant.near.iter();
+        let near_home = near.clone().any(|&near| at_home(near, service));
         tally.mark("take: INTER-ROAD, a home record stays", abroad && near_home);
-        let near_abroad = near.iter().any(|&near| !at_home(near, service));
+        let near_abroad = near.any(|&near| !at_home(near, service));
         tally.mark(
             "take: INTER-ROAD, another table's record stays",
             abroad && near_abroad,
@@ -472,8 +586,90 @@ impl Trial {
         (*table, *clock) = a;
     }
 
+    /// A take refuses 10 where a used record is at fault, which an expiry of the same table does
+    /// not; and for nothing else if table and lists are well-formed.
+    fn expect_faults(
+        &mut self,
+        entry: &(Vec<u8>, u32),
+        taking: &Taking,
+        refusal: u8,
+        well_formed: bool,
+    ) {
+        let Taking {
+            catalogue,
+            report,
+            minute,
+            ..
+        } = *taking;
+        let input = (entry, taking);
+        let faults = faults(&entry.0, catalogue);
+        let faulty = !faults.is_empty();
+        if well_formed || faulty {
+            self.tally
+                .expect(Call::TableTake, &input, refusal == 10, faulty);
+        }
+        let accepted = well_formed && faulty && (entry.1..=LARGEST).contains(&minute);
+        if accepted {
+            let (mut table, mut clock) = entry.clone();
+            let answer = self.expire_at(&mut table, &mut clock, minute);
+            self.tally
+                .expect(Call::TableExpire, &input, answer.refusal, 0);
+        }
+        let expiring = faults.iter().all(|&(_, expiry)| expiry <= minute);
+        let null = classes::kind(catalogue, report.head.event) == Some(3);
+        for (fault, marks) in FAULT_MARKS {
+            let alone = accepted && faults.iter().all(|&(of, _)| of == fault);
+            for (mark, happened) in marks.into_iter().zip([true, expiring, null]) {
+                self.tally.mark(mark, alone && happened);
+            }
+        }
+    }
+
+    /// Marks by which events an accepted take matched, or did not.
+    fn mark_classes(&mut self, taking: &Taking, meant: &Meant) {
+        let tally = &mut self.tally;
+        let mut met_such = |mark, such: fn(&Meeting, bool) -> bool| {
+            let mut met = meant.met.iter();
+            tally.mark(mark, met.any(|(meeting, byte)| such(meeting, *byte)));
+        };
+        met_such(
+            "take: matched by an additional event of the record alone",
+            |meeting, _| meeting.shared == [false, true, false, false],
+        );
+        met_such(
+            "take: matched by an additional event of the report alone",
+            |meeting, _| meeting.shared == [false, false, true, false],
+        );
+        met_such(
+            "take: matched by an additional event of each alone",
+            |meeting, _| meeting.shared == [false, false, false, true],
+        );
+        met_such(
+            "take: nothing but additional events without a class in common, not matched",
+            |meeting, _| meeting.without_class && !meeting.matches(),
+        );
+        met_such(
+            "take: matched by the first events, the class byte another",
+            |meeting, byte| meeting.shared[0] && !byte,
+        );
+        met_such(
+            "take: not matched, the class byte that of the report's first event",
+            |meeting, byte| !meeting.matches() && byte,
+        );
+        let items = &taking.report.items;
+        let cancelling = |event| classes::kind(taking.catalogue, event) == Some(2);
+        tally.mark(
+            "take: stored with a cancelling additional event",
+            meant.answer.stored == 1 && classes::additional_events(items).any(cancelling),
+        );
+    }
+
     fn expire(&mut self, table: &mut Vec<u8>, clock: &mut u32) {
         let minute = self.next_minute(*clock);
+        self.expire_at(table, clock, minute);
+    }
+
+    fn expire_at(&mut self, table: &mut Vec<u8>, clock: &mut u32, minute: u32) -> TableAnswer {
         let entry = (table.clone(), *clock);
         let (mut a, mut b) = (entry.clone(), entry.clone());
         let proved = proved::table_expire(&mut a.0, &mut a.1, minute);
@@ -488,6 +684,7 @@ impl Trial {
         );
         self.tally.mark("expire: several", proved.expired > 1);
         (*table, *clock) = a;
+        proved
     }
 
     fn read(&mut self, table: &[u8]) {
@@ -564,8 +761,11 @@ impl Trial {
     }
 
     /// Reads a record of which one byte or one bit at the end of the content was set.
-    pub fn record_byte(&mut self) {
-        let mut table = self.record(1).to_vec();
+    pub fn record_byte(&mut self, lists: &Lists) {
+        let mut table = self.record(1, lists);
+        if self.random.once_in(2) {
+            self.spoil(&mut table, lists);
+        }
         let random = &mut self.random;
         if random.once_in(4) {
             let end = 28 * (u64::from(table[1]) - 1);
