@@ -1,5 +1,7 @@
 //! What both sides are given: friendly input, and input with refusals and losses.
 
+use std::ops::Range;
+
 use proved::{DrmUnit, Fig, Head, Item, RdsGroup, Report};
 use second::recording::{self, Frame};
 
@@ -22,6 +24,9 @@ pub const GROUP_BYTES: usize = 8;
 /// The code of a foreign location table: country 13, number 1.
 const FLT_CODE: u16 = 0xFF41;
 
+/// The additional events of multi-event reports.
+pub const ADDITIONAL_EVENTS: Range<u16> = 201..231;
+
 /// Of the rough input one piece in so many is lost, and as many are refused.
 const ROUGH: usize = 5;
 
@@ -39,20 +44,42 @@ pub fn single_at(location: u16) -> Report {
     }
 }
 
-/// A multi-group report of one to seven items, which take two to five groups.
-pub fn multi_at(location: u16, count: usize) -> Report {
-    const LABELS: [u16; 7] = [6, 9, 3, 10, 4, 5, 2];
+/// A multi-group report of these items.
+fn multi_of(location: u16, items: impl ExactSizeIterator<Item = Item>) -> Report {
     let mut report = Report {
         form: 1,
         duration: 0,
-        item_count: count,
+        item_count: items.len(),
         ..single_at(location)
     };
-    for (item, &label) in report.items.iter_mut().zip(&LABELS[..count]) {
-        let value = 1 + location % 30;
-        *item = Item { label, value };
+    for (place, item) in report.items.iter_mut().zip(items) {
+        *place = item;
     }
     report
+}
+
+/// A multi-group report of one to seven items, which take two to five groups.
+pub fn multi_at(location: u16, count: usize) -> Report {
+    const LABELS: [u16; 7] = [6, 9, 3, 10, 4, 5, 2];
+    let value = 1 + location % 30;
+    let item = |&label| Item { label, value };
+    multi_of(location, LABELS[..count].iter().map(item))
+}
+
+/// A multi-event report: one additional event in two groups or two in three.
+pub fn multi_event_at(location: u16) -> Report {
+    let additional = |event| Item {
+        label: 9,
+        value: ADDITIONAL_EVENTS.start + event % ADDITIONAL_EVENTS.len() as u16,
+    };
+    let supplementary = Item { label: 6, value: 1 };
+    let items = [
+        additional(location),
+        supplementary,
+        additional(location / 2),
+    ];
+    let count = 2 + usize::from(location % 2);
+    multi_of(location, items.into_iter().take(count))
 }
 
 /// Report `i` of several multi-group ones, with its continuity index.

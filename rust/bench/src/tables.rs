@@ -4,7 +4,7 @@ use std::hint::black_box;
 
 use proved::{Report, Service, TableAnswer, TableReading, Taking, RECORD_BYTES as RECORD};
 
-use crate::input::{multi_at, single_at};
+use crate::input::{multi_at, multi_event_at, single_at, ADDITIONAL_EVENTS};
 use crate::timing::{least, measure, print_limit, Times};
 
 /// Calls in one measurement.
@@ -20,15 +20,20 @@ const SERVICE: Service = Service {
     sid: 3,
 };
 
-/// Event 101 is ordinary, 102 cancels it, 103 is null, the others are unknown.
+/// Event 101 is ordinary, 102 cancels it, 103 is null, the additional ones are ordinary and of
+/// classes of their own, the others are unknown.
 fn catalogue() -> [u16; EVENTS] {
     let mut catalogue = [0; EVENTS];
     catalogue[101] = 1 << 6 | 5;
     catalogue[102] = 2 << 6 | 5;
     catalogue[103] = 3 << 6;
+    for (event, class) in ADDITIONAL_EVENTS.zip(6..) {
+        catalogue[usize::from(event)] = 1 << 6 | class;
+    }
     catalogue
 }
 
+type ReportAt = fn(u16) -> Report;
 type Take = fn(&mut [u8], &mut u32, &Taking) -> TableAnswer;
 type Expire = fn(&mut [u8], &mut u32, u32) -> TableAnswer;
 type Read = fn(&[u8], usize) -> TableReading;
@@ -75,9 +80,9 @@ impl Table {
     }
 
     /// Fills the table but for one record.
-    fn fill(&mut self) {
+    fn fill(&mut self, report_at: ReportAt) {
         for location in 0..self.records() - 1 {
-            let answer = self.take(calls::table_take, single_at(location as u16), START);
+            let answer = self.take(calls::table_take, report_at(location as u16), START);
             assert_eq!((answer.refusal, answer.stored), (0, 1));
         }
     }
@@ -100,9 +105,9 @@ fn measure_on(table: Table, call: impl Fn(&mut Table, Take)) -> Times {
 }
 
 /// Takes into a table with one free record, each matching one record.
-fn take(what: &str, records: usize, report_at: fn(u16) -> Report) -> Times {
+fn take(what: &str, records: usize, stored_at: ReportAt, report_at: ReportAt) -> Times {
     let mut table = Table::new(records, 60);
-    table.fill();
+    table.fill(stored_at);
     let times = measure_on(table, |table, take| {
         let location = table.taken % (table.records() - 1);
         let answer = table.take(take, report_at(location as u16), START);
@@ -147,7 +152,7 @@ fn take_rough(records: usize) {
 /// Expiry at a minute before that of every record, so that the table stays as it is.
 fn expire(records: usize) {
     let mut table = Table::new(records, 60);
-    table.fill();
+    table.fill(single_at);
     let (mut ours, mut second) = (table.clone(), table);
     let run = |table: &mut Table, expire: Expire| {
         let expire = black_box(expire);
@@ -164,7 +169,7 @@ fn expire(records: usize) {
 /// Reads a multi-group record and a single-group one in turn.
 fn read(records: usize) {
     let mut table = Table::new(records, 60);
-    table.fill();
+    table.fill(single_at);
     let place = records / 2;
     table.take(calls::table_take, multi_at(place as u16, 7), START);
     let run = |read: Read| {
@@ -182,7 +187,7 @@ fn read(records: usize) {
 /// Reads the bytes of a multi-group record and of a single-group one in turn.
 fn read_alone() {
     let mut table = Table::new(2, 60);
-    table.fill();
+    table.fill(single_at);
     table.take(calls::table_take, multi_at(1, 7), START);
     let run = |read: ReadAlone| {
         let read = black_box(read);
@@ -209,21 +214,28 @@ pub fn scan(bytes: &[u8]) -> u64 {
 /// All calls on tables.
 pub fn bench() {
     let sizes = [64, 256, 1024];
-    let [_, small, large] = sizes.map(|records| take("take", records, single_at));
+    let [_, small, large] = sizes.map(|records| take("take", records, single_at, single_at));
     println!(
         "a take's growth from 256 to 1024 records: ours {:.2}, second {:.2}",
         large.ours.as_secs_f64() / small.ours.as_secs_f64(),
         large.second.as_secs_f64() / small.second.as_secs_f64()
     );
     let most = 1024;
-    take("multi-group take", most, |location| multi_at(location, 7));
+    let multi_group_at: ReportAt = |location| multi_at(location, 7);
+    take("multi-group take", most, single_at, multi_group_at);
+    take(
+        "multi-event take among multi-event reports",
+        most,
+        multi_event_at,
+        multi_event_at,
+    );
     take_rough(most);
     expire(most);
     read(most);
     read_alone();
     for records in sizes {
         let mut table = Table::new(records, 60);
-        table.fill();
+        table.fill(single_at);
         let time = least(SCANS, || {
             for _ in 0..CALLS {
                 black_box(scan(black_box(&table.bytes)));

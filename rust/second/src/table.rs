@@ -198,8 +198,9 @@ impl Lists<'_> {
     /// Whether a record is free, or its first event has a class and its content reads as items.
     #[inline]
     fn fit_record(&self, record: &Record) -> bool {
-        let has_class = || self.event(number(record, EVENT)).classes() != 0;
-        is_free(record) || has_class() && self.classes(record).is_ok()
+        is_free(record)
+            || self.event(number(record, EVENT)).classes() != 0
+                && content(record).each_item(|_| ()).is_ok()
     }
 }
 
