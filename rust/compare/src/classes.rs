@@ -46,11 +46,13 @@ impl Classes {
         }
     }
 
+    /// Of a report that fits.
     pub fn of_report(catalogue: &[u16], report: &Report) -> Self {
         let items = &report.items[..report.item_count];
         Self::new(catalogue, report.head.event, items)
     }
 
+    /// Of a used record, if a take accepts it.
     pub fn of_record(catalogue: &[u16], record: &[u8]) -> Result<Self, Fault> {
         let items = sender::record_items(record).ok_or(Fault::Content)?;
         let event = u16::from_le_bytes([record[6], record[7]]);
@@ -94,6 +96,7 @@ pub struct Meeting {
 }
 
 impl Meeting {
+    /// Whether they match on class.
     pub fn matches(&self) -> bool {
         self.shared.contains(&true)
     }

@@ -14,7 +14,7 @@ pub const SERVICE: Service = Service {
 };
 pub const MINUTE: u32 = 100;
 
-/// Direction and extent of the worked multi-group messages.
+/// A head with the direction and the extent of the worked multi-group messages.
 pub fn head(event: u16, location: u16) -> Head {
     Head {
         direction: 0,
@@ -90,7 +90,7 @@ impl Table {
     }
 }
 
-/// A take that stored, and that no record had expired for.
+/// A take that stored, with no record expired.
 pub fn stored(matched: usize, place: usize) -> Result<Taken, Refusal> {
     Ok(Taken {
         expired: 0,
