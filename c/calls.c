@@ -1161,39 +1161,76 @@ static void table(void) {
     SAME(alertc_expiry(ALERTC_LARGEST_MINUTE + 1, 31, 0).refusal, ALERTC_REFUSED_MINUTE);
 }
 
-/* A table at the border, with room for three records, and its clock. */
-static uint8_t border_table[3 * ALERTC_RECORD_BYTES];
-static uint32_t border_clock;
+/* A table with room for three records, its clock and its catalogue. */
+static uint8_t small_table[3 * ALERTC_RECORD_BYTES];
+static uint32_t small_clock;
+static uint16_t small_catalogue[ALERTC_EVENTS];
 
-/* It takes a report of the service with SID 3 in country 13, whose location table is 17. */
-static struct alertc_table_answer border_take(struct alertc_report report, uint32_t minute) {
-    static uint16_t catalogue[ALERTC_EVENTS];
-    const struct alertc_service service = {13, 17, 3};
-    uint16_t lives[ALERTC_LIVES] = {0};
-    catalogue[101] = catalogue[401] = ALERTC_CATALOGUE_ENTRY(9, 1, 0);
-    catalogue[400] = ALERTC_CATALOGUE_ENTRY(9, 2, 0);
-    lives[2] = 60;
-    return alertc_table_take(border_table, sizeof border_table, catalogue, ALERTC_EVENTS, lives,
-                             ALERTC_LIVES, &border_clock, report, service, minute, 0);
+/* Empty, with the clock at its start and a catalogue of a few events. */
+static void small_start(void) {
+    memset(small_table, 0, sizeof small_table);
+    small_clock = 0;
+    memset(small_catalogue, 0, sizeof small_catalogue);
+    small_catalogue[101] = small_catalogue[401] = ALERTC_CATALOGUE_ENTRY(9, 1, 0);
+    small_catalogue[400] = ALERTC_CATALOGUE_ENTRY(9, 2, 0);
+    small_catalogue[201] = ALERTC_CATALOGUE_ENTRY(5, 1, 0);
+    small_catalogue[641] = ALERTC_CATALOGUE_ENTRY(9, 1, 0);
+    small_catalogue[2028] = ALERTC_CATALOGUE_ENTRY(9, 2, 0);
+    small_catalogue[2047] = ALERTC_CATALOGUE_ENTRY(0, 3, 0);
+    small_catalogue[662] = ALERTC_CATALOGUE_ENTRY(63, 2, 0);
+    small_catalogue[663] = ALERTC_CATALOGUE_ENTRY(63, 1, 0);
 }
 
-#define STORED(report, place, matched) stored(__LINE__, report, place, matched)
+static struct alertc_table_answer storing(size_t expired, size_t matched, size_t place) {
+    struct alertc_table_answer t = {expired, matched, place, 1, ALERTC_ACCEPTED};
+    return t;
+}
 
-/* A report that comes at minute 100 is stored at this place and frees so many. */
-static void stored(int line, struct alertc_report report, size_t place, size_t matched) {
-    struct alertc_table_answer t = border_take(report, 100);
-    same(line, "refusal", t.refusal, ALERTC_ACCEPTED);
-    same(line, "stored", t.stored, 1);
-    same(line, "place", t.place, place);
-    same(line, "expired", t.expired, 0);
-    same(line, "matched", t.matched, matched);
+static struct alertc_table_answer freeing(size_t expired, size_t matched) {
+    struct alertc_table_answer t = {expired, matched, 0, 0, ALERTC_ACCEPTED};
+    return t;
+}
+
+static struct alertc_table_answer refusing(uint8_t refusal) {
+    struct alertc_table_answer t = {0, 0, 0, 0, refusal};
+    return t;
+}
+
+#define TAKE(report, minute, answer) take(__LINE__, report, minute, answer)
+
+/*
+ * A report of the service with SID 3 in country 13, whose location table is 17, has this answer at
+ * a minute. A refusal leaves the table and the clock.
+ */
+static void take(int line, struct alertc_report report, uint32_t minute,
+                 struct alertc_table_answer answer) {
+    const struct alertc_service service = {13, 17, 3};
+    const uint32_t clock_before = small_clock;
+    uint8_t table_before[sizeof small_table];
+    uint16_t lives[ALERTC_LIVES] = {0};
+    lives[2] = 60;
+    memcpy(table_before, small_table, sizeof table_before);
+    struct alertc_table_answer t =
+        alertc_table_take(small_table, sizeof small_table, small_catalogue, ALERTC_EVENTS, lives,
+                          ALERTC_LIVES, &small_clock, report, service, minute, 0);
+    same(line, "expired", t.expired, answer.expired);
+    same(line, "matched", t.matched, answer.matched);
+    same(line, "place", t.place, answer.place);
+    same(line, "stored", t.stored, answer.stored);
+    same(line, "refusal", t.refusal, answer.refusal);
+    if (answer.refusal == ALERTC_ACCEPTED) {
+        same(line, "clock", small_clock, minute);
+    } else {
+        same(line, "clock", small_clock, clock_before);
+        same_bytes(line, "table", small_table, table_before, sizeof small_table);
+    }
 }
 
 #define KEPT(place, report) kept(__LINE__, place, report)
 
-/* The record at this place reads back as this report of the service. */
+/* The record at this place reads back as this report of the service, taken at minute 100. */
 static void kept(int line, size_t place, struct alertc_report report) {
-    struct alertc_table_reading r = alertc_table_read(border_table, sizeof border_table, place);
+    struct alertc_table_reading r = alertc_table_read(small_table, sizeof small_table, place);
     same(line, "refusal", r.refusal, ALERTC_ACCEPTED);
     same(line, "used", r.used, 1);
     same_report(line, r.report, report);
@@ -1214,10 +1251,11 @@ static void border(void) {
         9,    13,                                             /* class, country */
         13,   1};                                             /* the location's country and LTN */
     const size_t at_home = ALERTC_RECORD_BYTES, abroad = 2 * ALERTC_RECORD_BYTES;
-    uint8_t expected[sizeof border_table] = {0};
+    uint8_t expected[sizeof small_table] = {0};
+    small_start();
     memcpy(expected, worked, sizeof worked);
-    STORED(report_foreign(), 0, 0);
-    SAME_BYTES(border_table, expected, sizeof expected);
+    TAKE(report_foreign(), 100, storing(0, 0, 0));
+    SAME_BYTES(small_table, expected, sizeof expected);
 
     /* At 500 at home, table 13/17, one byte differs; at 500 of 1/17, the country too. No location
      * is another's, so that no report matches another's record. */
@@ -1228,13 +1266,13 @@ static void border(void) {
     memcpy(expected + abroad, worked, sizeof worked);
     expected[abroad + 32] = 1;
     expected[abroad + 33] = 17;
-    STORED(report_401(), 1, 0);
-    STORED(other_country, 2, 0);
-    SAME_BYTES(border_table, expected, sizeof expected);
-    STORED(report_foreign(), 0, 1);
-    STORED(report_401(), 1, 1);
-    STORED(other_country, 2, 1);
-    SAME_BYTES(border_table, expected, sizeof expected);
+    TAKE(report_401(), 100, storing(0, 0, 1));
+    TAKE(other_country, 100, storing(0, 0, 2));
+    SAME_BYTES(small_table, expected, sizeof expected);
+    TAKE(report_foreign(), 100, storing(0, 1, 0));
+    TAKE(report_401(), 100, storing(0, 1, 1));
+    TAKE(other_country, 100, storing(0, 1, 2));
+    SAME_BYTES(small_table, expected, sizeof expected);
     KEPT(0, report_foreign());
     KEPT(1, report_401());
     KEPT(2, other_country);
@@ -1242,8 +1280,8 @@ static void border(void) {
     /* With the service's own FLT code a report is one at home. */
     struct alertc_report own = report_foreign();
     own.location = 0xFF51;
-    STORED(own, 1, 1);
-    SAME_BYTES(border_table, expected, sizeof expected);
+    TAKE(own, 100, storing(0, 1, 1));
+    SAME_BYTES(small_table, expected, sizeof expected);
     KEPT(1, report_401());
 
     /* Both reasons for 12, after 9 and 13, before 11 and 14. */
@@ -1253,31 +1291,26 @@ static void border(void) {
     real.real_location = 0xFC00;
     last.real_location = 0xFBFF;
     unplaced.real_location = 500;
-    SAME(border_take(single, 100).refusal, ALERTC_REFUSED_LOCATION);
-    SAME(border_take(single, 99).refusal, ALERTC_REFUSED_MINUTE);
-    SAME(border_take(real, 100).refusal, ALERTC_REFUSED_LOCATION);
-    SAME(border_take(real, 99).refusal, ALERTC_REFUSED_MINUTE);
-    SAME(border_take(last, 100).refusal, ALERTC_REFUSED_NO_ROOM);
-    SAME(border_take(unplaced, 100).refusal, ALERTC_REFUSED_UNFIT);
-    SAME(border_take(with_items_14(real, 25), 99).refusal, ALERTC_REFUSED_UNFIT);
+    TAKE(single, 100, refusing(ALERTC_REFUSED_LOCATION));
+    TAKE(single, 99, refusing(ALERTC_REFUSED_MINUTE));
+    TAKE(real, 100, refusing(ALERTC_REFUSED_LOCATION));
+    TAKE(real, 99, refusing(ALERTC_REFUSED_MINUTE));
+    TAKE(last, 100, refusing(ALERTC_REFUSED_NO_ROOM));
+    TAKE(unplaced, 100, refusing(ALERTC_REFUSED_UNFIT));
+    TAKE(with_items_14(real, 25), 99, refusing(ALERTC_REFUSED_UNFIT));
     single.event = real.event = last.event = 102;
-    SAME(border_take(single, 100).refusal, ALERTC_REFUSED_LOCATION);
-    SAME(border_take(real, 100).refusal, ALERTC_REFUSED_LOCATION);
-    SAME(border_take(last, 100).refusal, ALERTC_REFUSED_EVENT);
+    TAKE(single, 100, refusing(ALERTC_REFUSED_LOCATION));
+    TAKE(real, 100, refusing(ALERTC_REFUSED_LOCATION));
+    TAKE(last, 100, refusing(ALERTC_REFUSED_EVENT));
     single.real_location = 500;
-    SAME(border_take(single, 99).refusal, ALERTC_REFUSED_UNFIT);
-    SAME_BYTES(border_table, expected, sizeof expected);
-    SAME(border_clock, 100);
+    TAKE(single, 99, refusing(ALERTC_REFUSED_UNFIT));
 
     /* A foreign road's message is cancelled alone. */
     struct alertc_report cancelling = with_items_14(report_foreign(), 0);
     cancelling.event = 400;
-    struct alertc_table_answer t = border_take(cancelling, 100);
-    SAME(t.refusal, ALERTC_ACCEPTED);
-    SAME(t.matched, 1);
-    SAME(t.stored, 0);
+    TAKE(cancelling, 100, freeing(0, 1));
     memset(expected, 0, ALERTC_RECORD_BYTES);
-    SAME_BYTES(border_table, expected, sizeof expected);
+    SAME_BYTES(small_table, expected, sizeof expected);
 
     /* The last code that is a location, with 96 bits of items; until midnight, minute 0x05A0. */
     last = with_items_14(last, 24);
@@ -1290,8 +1323,8 @@ static void border(void) {
     expected[12] = 0xA0;
     expected[13] = 0x05;
     memset(expected + 16, 0xEE, 12);
-    STORED(last, 0, 0);
-    SAME_BYTES(border_table, expected, sizeof expected);
+    TAKE(last, 100, storing(0, 0, 0));
+    SAME_BYTES(small_table, expected, sizeof expected);
 
     /* One record's bytes: the largest country and LTN, and what is above them; one group. */
     uint8_t record[ALERTC_RECORD_BYTES];
@@ -1315,6 +1348,303 @@ static void border(void) {
     one_group.duration = 2;
     SAME(alertc_record_read(record, sizeof record).refusal, ALERTC_ACCEPTED);
     SAME_REPORT(alertc_record_read(record, sizeof record).report, one_group);
+}
+
+/* A single-group report of an event at 500, of duration 2. */
+static struct alertc_report report_of(uint16_t event) {
+    struct alertc_report r = ALERTC_REPORT_INIT;
+    r.event = event;
+    r.location = 500;
+    r.extent = 1;
+    r.duration = 2;
+    return r;
+}
+
+/* The report as a multi-group one, with an extra event before its other items. */
+static struct alertc_report with_event(struct alertc_report r, uint16_t event) {
+    if (r.form == ALERTC_SINGLE_GROUP) {
+        r.form = ALERTC_MULTI_GROUP;
+        r.items[0].value = r.duration;
+        r.item_count = 1;
+    }
+    memmove(&r.items[1], &r.items[0], r.item_count * sizeof r.items[0]);
+    r.items[0].label = 9;
+    r.items[0].value = event;
+    r.item_count++;
+    return r;
+}
+
+#define MEETS(record, report, answer) meets(__LINE__, record, report, answer)
+
+/* In a table with this record alone a report has this answer, and does what it says. */
+static void meets(int line, struct alertc_report record, struct alertc_report report,
+                  struct alertc_table_answer answer) {
+    uint8_t expected[sizeof small_table] = {0};
+    const size_t stored_at = answer.place * ALERTC_RECORD_BYTES;
+    small_start();
+    take(line, record, 100, storing(0, 0, 0));
+    if (answer.matched == 0) {
+        memcpy(expected, small_table, ALERTC_RECORD_BYTES);
+    }
+    take(line, report, 100, answer);
+    if (answer.stored) {
+        kept(line, answer.place, report);
+        memcpy(expected + stored_at, small_table + stored_at, ALERTC_RECORD_BYTES);
+    }
+    same_bytes(line, "table", small_table, expected, sizeof expected);
+}
+
+/* The rules' record of 201 with (9,641), (0,2) at 500. */
+static const uint8_t accident[ALERTC_RECORD_BYTES] = {
+    1,    2,    3,    17,                               /* used, groups, SID, LTN */
+    0xF4, 0x01, 0xC9, 0,                                /* location, event */
+    0,    1,    0,    2,                                /* direction, extent, diversion, duration */
+    160,  0,    0,    0,                                /* expiry */
+    0x95, 0x02, 0x08, 0,  0, 0, 0, 0, 0, 0, 0, 0, 0, 0, /* content */
+    5,    13,                                           /* class, country */
+    13,   17};                                          /* the location's country and LTN */
+
+/* At minute 100, the table is full of that record. */
+static void all_accidents(void) {
+    small_start();
+    small_clock = 100;
+    for (size_t at = 0; at < sizeof small_table; at += sizeof accident) {
+        memcpy(small_table + at, accident, sizeof accident);
+    }
+}
+
+/* At minute 100, the table has this record alone. */
+static void alone(const uint8_t *record) {
+    small_start();
+    small_clock = 100;
+    memcpy(small_table, record, ALERTC_RECORD_BYTES);
+}
+
+/* Takes that a full table refuses, each for the first of its reasons; if malformed, with 10. */
+static void refused_when_full(int line, int malformed) {
+    struct alertc_report unfit = report_of(1000), foreign = report_of(1000),
+                         unknown = report_of(1000), elsewhere = report_of(201);
+    unfit.form = 2;
+    unfit.location = foreign.location = ALERTC_FLT_CODES;
+    elsewhere.location = 501;
+    const struct {
+        struct alertc_report report;
+        uint32_t minute;
+        uint8_t refusal;
+    } takes[] = {{unfit, 99, ALERTC_REFUSED_UNFIT},
+                 {foreign, 99, ALERTC_REFUSED_MINUTE},
+                 {foreign, 100, ALERTC_REFUSED_LOCATION},
+                 {unknown, 100, ALERTC_REFUSED_EVENT},
+                 {elsewhere, 100, ALERTC_REFUSED_NO_ROOM}};
+    for (size_t i = 0; i < sizeof takes / sizeof takes[0]; i++) {
+        take(line, takes[i].report, takes[i].minute,
+             refusing(malformed ? (uint8_t)ALERTC_REFUSED_MALFORMED : takes[i].refusal));
+    }
+}
+
+#define NOT_TAKEN(record, reading) not_taken(__LINE__, record, reading)
+
+/*
+ * With this record among the others of a full table every take is refused (10): of each kind, where
+ * all records would expire, and where there are other reasons. The record is read, or refused, as
+ * given, and expires.
+ */
+static void not_taken(int line, const uint8_t *record, uint8_t reading) {
+    const uint8_t empty[sizeof small_table] = {0};
+    const struct alertc_table_answer malformed = refusing(ALERTC_REFUSED_MALFORMED);
+    for (size_t place = 0; place < 3; place++) {
+        uint8_t *at = small_table + place * ALERTC_RECORD_BYTES;
+        all_accidents();
+        memcpy(at, record, ALERTC_RECORD_BYTES);
+        refused_when_full(line, 1);
+        take(line, report_of(201), 100, malformed);
+        take(line, report_of(2028), 100, malformed);
+        take(line, report_of(2047), 100, malformed);
+        take(line, report_of(201), 160, malformed);
+        same(line, "refusal", alertc_record_read(at, ALERTC_RECORD_BYTES).refusal, reading);
+        same(line, "refusal", alertc_table_read(small_table, sizeof small_table, place).refusal,
+             reading);
+
+        struct alertc_table_answer t =
+            alertc_table_expire(small_table, sizeof small_table, &small_clock, 159);
+        same(line, "refusal", t.refusal, ALERTC_ACCEPTED);
+        same(line, "expired", t.expired, 0);
+        same_bytes(line, "record", at, record, ALERTC_RECORD_BYTES);
+        t = alertc_table_expire(small_table, sizeof small_table, &small_clock, 160);
+        same(line, "refusal", t.refusal, ALERTC_ACCEPTED);
+        same(line, "expired", t.expired, 3);
+        same_bytes(line, "table", small_table, empty, sizeof empty);
+        take(line, report_of(201), 160, storing(0, 0, 0));
+    }
+}
+
+/* A report's classes are those of all its events. */
+static void classes(void) {
+    SAME(ALERTC_CATALOGUE_ENTRY(5, 1, 0), 0x45);
+    SAME(ALERTC_CATALOGUE_ENTRY(9, 1, 0), 0x49);
+    SAME(ALERTC_CATALOGUE_ENTRY(9, 2, 0), 0x89);
+    SAME(ALERTC_CATALOGUE_ENTRY(0, 3, 0), 0xC0);
+
+    /* An extra event of the record. */
+    const struct alertc_report lane_closed = with_event(report_of(201), 641);
+    MEETS(lane_closed, report_of(2028), freeing(0, 1));
+    MEETS(lane_closed, report_of(641), storing(0, 1, 0));
+    MEETS(lane_closed, report_of(201), storing(0, 1, 0));
+    MEETS(lane_closed, report_of(662), freeing(0, 0));
+    MEETS(lane_closed, report_of(2047), freeing(0, 0));
+    MEETS(report_of(201), report_of(2028), freeing(0, 0));
+
+    /* Of the report that arrives; of both. */
+    MEETS(report_of(641), lane_closed, storing(0, 1, 0));
+    MEETS(report_of(663), lane_closed, storing(0, 0, 1));
+    MEETS(lane_closed, with_event(report_of(663), 641), storing(0, 1, 0));
+    MEETS(lane_closed, with_event(report_of(641), 663), storing(0, 1, 0));
+    MEETS(lane_closed, with_event(report_of(662), 641), freeing(0, 1));
+
+    /* The highest class. */
+    MEETS(with_event(report_of(201), 663), report_of(662), freeing(0, 1));
+    MEETS(with_event(report_of(201), 663), with_event(report_of(641), 663), storing(0, 1, 0));
+    MEETS(with_event(report_of(201), 663), report_of(2028), freeing(0, 0));
+
+    /* Extra events that are null or unknown have no class, not even a common one. */
+    const uint16_t classless[] = {2047, 1000};
+    for (size_t i = 0; i < 2; i++) {
+        const struct alertc_report passed_over = with_event(report_of(201), classless[i]);
+        MEETS(passed_over, report_of(2028), freeing(0, 0));
+        MEETS(passed_over, report_of(201), storing(0, 1, 0));
+        MEETS(passed_over, with_event(report_of(641), classless[i]), storing(0, 0, 1));
+        MEETS(report_of(201), passed_over, storing(0, 1, 0));
+        MEETS(with_event(passed_over, 641), report_of(2028), freeing(0, 1));
+        MEETS(with_event(lane_closed, classless[i]), report_of(2028), freeing(0, 1));
+    }
+
+    /* The last of as many as there can be, in 112 bits. Values of other labels are no events. */
+    struct alertc_report most = lane_closed, label_10 = lane_closed;
+    while (most.item_count < 8) {
+        most = with_event(most, 1000);
+    }
+    MEETS(most, report_of(2028), freeing(0, 1));
+    MEETS(report_of(641), most, storing(0, 1, 0));
+    label_10.items[0].label = 10;
+    MEETS(label_10, report_of(2028), freeing(0, 0));
+    MEETS(report_of(641), label_10, storing(0, 0, 1));
+
+    /* The first event alone tells the kind. */
+    const struct alertc_report lane_opened = with_event(report_of(201), 2028);
+    MEETS(report_of(641), lane_opened, storing(0, 1, 0));
+    MEETS(report_of(663), lane_opened, storing(0, 0, 1));
+    MEETS(lane_opened, report_of(641), storing(0, 1, 0));
+    MEETS(lane_opened, report_of(2028), freeing(0, 1));
+    MEETS(report_of(201), with_event(report_of(2028), 201), freeing(0, 1));
+    MEETS(report_of(641), with_event(report_of(2047), 641), freeing(0, 0));
+
+    /* A foreign road's record has the items alone as its content. */
+    struct alertc_report abroad = lane_closed, opened_abroad = with_event(report_of(2028), 2047);
+    abroad.location = opened_abroad.location = 0xFF41;
+    abroad.real_location = opened_abroad.real_location = 500;
+    MEETS(abroad, opened_abroad, freeing(0, 1));
+    MEETS(abroad, report_of(2028), freeing(0, 0));
+    MEETS(lane_closed, opened_abroad, freeing(0, 0));
+
+    /* Records of both classes are freed, and no other. */
+    uint8_t expected[ALERTC_RECORD_BYTES];
+    small_start();
+    TAKE(report_of(201), 100, storing(0, 0, 0));
+    TAKE(report_of(641), 100, storing(0, 0, 1));
+    TAKE(report_of(663), 100, storing(0, 0, 2));
+    TAKE(lane_opened, 100, storing(0, 2, 0));
+    memcpy(expected, accident, sizeof expected);
+    expected[16] = 0x9F; /* 1001 11111101100 0000 010 */
+    expected[17] = 0xD8;
+    SAME_BYTES(small_table, expected, sizeof expected);
+    SAME(alertc_table_read(small_table, sizeof small_table, 1).used, 0);
+    KEPT(2, report_of(663));
+
+    /* What has expired does not match as well. */
+    small_start();
+    TAKE(lane_closed, 100, storing(0, 0, 0));
+    SAME_BYTES(small_table, accident, sizeof accident);
+    TAKE(report_of(641), 160, storing(1, 0, 0));
+    all_accidents();
+    small_table[ALERTC_RECORD_BYTES + 12] = 161;
+    TAKE(report_of(2028), 160, freeing(2, 1));
+
+    /* Service, location and direction are compared as well, and nothing else. */
+    const size_t in_common[] = {2, 3, 4, 5, 8, 31, 32, 33}, beside[] = {1, 9, 10, 11, 12, 30};
+    uint8_t record[ALERTC_RECORD_BYTES];
+    for (size_t i = 0; i < sizeof in_common / sizeof in_common[0]; i++) {
+        memcpy(record, accident, sizeof record);
+        record[in_common[i]] ^= 1;
+        alone(record);
+        TAKE(report_of(2028), 100, freeing(0, 0));
+        SAME_BYTES(small_table, record, sizeof record);
+    }
+    for (size_t i = 0; i < sizeof beside / sizeof beside[0]; i++) {
+        memcpy(record, accident, sizeof record);
+        record[beside[i]] ^= 1;
+        alone(record);
+        TAKE(report_of(2028), 100, freeing(0, 1));
+    }
+
+    /* The class of a record's first event is the catalogue's too, and not byte 30. */
+    memcpy(record, accident, sizeof record);
+    record[1] = 1;
+    memset(record + 16, 0, 3);
+    record[30] = 9;
+    alone(record);
+    TAKE(report_of(2028), 100, freeing(0, 0));
+    TAKE(report_of(201), 100, storing(0, 1, 0));
+    SAME(small_table[30], 5);
+    record[6] = 0xEC; /* 2028: cancelling events are not stored, but have a class */
+    record[7] = 0x07;
+    record[30] = 5;
+    alone(record);
+    TAKE(report_of(641), 100, storing(0, 1, 0));
+
+    /* It is from 1 to 63 for all calls. */
+    const uint8_t no_class[] = {0, 64};
+    for (size_t i = 0; i < 2; i++) {
+        memcpy(record, accident, sizeof record);
+        record[30] = no_class[i];
+        alone(record);
+        TAKE(report_of(2028), 100, refusing(ALERTC_REFUSED_MALFORMED));
+        SAME(alertc_table_expire(small_table, sizeof small_table, &small_clock, 100).refusal,
+             ALERTC_REFUSED_MALFORMED);
+        SAME(alertc_record_read(record, sizeof record).refusal, ALERTC_REFUSED_MALFORMED);
+    }
+
+    /* With another catalogue stored reports have other classes, or are refused. */
+    alone(accident);
+    small_catalogue[641] = ALERTC_CATALOGUE_ENTRY(10, 1, 0);
+    TAKE(report_of(2028), 100, freeing(0, 0));
+    small_catalogue[201] = 0;
+    TAKE(report_of(641), 100, refusing(ALERTC_REFUSED_MALFORMED));
+    small_catalogue[201] = ALERTC_CATALOGUE_ENTRY(0, 3, 0);
+    TAKE(report_of(641), 100, refusing(ALERTC_REFUSED_MALFORMED));
+    small_catalogue[201] = ALERTC_CATALOGUE_ENTRY(7, 2, 0);
+    TAKE(report_of(641), 100, storing(0, 1, 0));
+
+    /* Used records that no take passes, beside others that it would free: content that ends within
+     * an item, after an event that matches and without one; label 15; events 300 and 2047. */
+    all_accidents();
+    refused_when_full(__LINE__, 0);
+    memcpy(record, accident, sizeof record);
+    record[19] = 0x10;
+    NOT_TAKEN(record, ALERTC_REFUSED_CONTENT);
+    record[16] = record[17] = record[18] = 0xEE;
+    record[19] = 0xA0;
+    NOT_TAKEN(record, ALERTC_REFUSED_CONTENT);
+    record[19] = 0xF0;
+    NOT_TAKEN(record, ALERTC_REFUSED_LABEL_15);
+    memcpy(record, accident, sizeof record);
+    record[6] = 0x2C;
+    record[7] = 0x01;
+    NOT_TAKEN(record, ALERTC_ACCEPTED);
+    record[6] = 0xFF;
+    record[7] = 0x07;
+    NOT_TAKEN(record, ALERTC_ACCEPTED);
+    record[4] = 0xF5; /* elsewhere too */
+    NOT_TAKEN(record, ALERTC_ACCEPTED);
 }
 
 /* Every refusal has a text of its own. */
@@ -1342,6 +1672,7 @@ int main(void) {
     drm();
     table();
     border();
+    classes();
     texts();
     printf("%u compared, %u differ\n", compared, differing);
     return differing != 0;

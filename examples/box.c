@@ -18,7 +18,7 @@
  * of another. They are emptied on retuning, which a change of PI shows for RDS; a recording does
  * not say when a DAB or DRM tuner moves.
  *
- * THE CATALOGUE AND THE LIVES BELOW ARE FOR DEMONSTRATION. They know five events and are not those
+ * THE CATALOGUE AND THE LIVES BELOW ARE FOR DEMONSTRATION. They know eight events and are not those
  * of ISO 14819-2, nor of any service; so is the service that stands until system words name one.
  *
  * Build: rt staticlib capi
@@ -38,7 +38,10 @@ static const uint16_t catalogue[ALERTC_EVENTS] = {
     [100] = ALERTC_CATALOGUE_ENTRY(1, CANCELLING, 0),
     [101] = ALERTC_CATALOGUE_ENTRY(1, ORDINARY, 0),
     [102] = ALERTC_CATALOGUE_ENTRY(1, ORDINARY, 0),
+    [201] = ALERTC_CATALOGUE_ENTRY(3, ORDINARY, 0), /* accident */
     [401] = ALERTC_CATALOGUE_ENTRY(5, ORDINARY, 1),
+    [641] = ALERTC_CATALOGUE_ENTRY(9, ORDINARY, 0),    /* lane closed */
+    [2028] = ALERTC_CATALOGUE_ENTRY(9, CANCELLING, 0), /* lane closure cancelled */
     [2047] = ALERTC_CATALOGUE_ENTRY(0, NULL_MESSAGE, 0),
 };
 

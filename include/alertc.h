@@ -46,10 +46,10 @@ extern "C" {
 #endif
 
 /* The version of this interface: the first number changes when a caller must change. */
-#define ALERTC_VERSION_MAJOR 4
-#define ALERTC_VERSION_MINOR 1
-#define ALERTC_VERSION_PATCH 1
-#define ALERTC_VERSION "4.1.1"
+#define ALERTC_VERSION_MAJOR 5
+#define ALERTC_VERSION_MINOR 0
+#define ALERTC_VERSION_PATCH 0
+#define ALERTC_VERSION "5.0.0"
 
 /* ---- Refusals ---- */
 
@@ -212,8 +212,8 @@ enum alertc_form { ALERTC_SINGLE_GROUP = 0, ALERTC_MULTI_GROUP = 1 };
 
 /* An item of a multi-group message's content. */
 struct alertc_item {
-    uint16_t label; /* 0 to 14 */
-    uint16_t value; /* within the label's width */
+    uint16_t label; /* 0 to 14; 9: an extra event */
+    uint16_t value; /* within the label's width; of label 9 the event, 0 to 2047 */
 };
 
 /*
@@ -242,7 +242,7 @@ struct alertc_report {
     size_t item_count;
     uint8_t direction;      /* 0 positive, 1 negative */
     uint8_t extent;         /* 0 to 7 */
-    uint16_t event;         /* 0 to 2047 */
+    uint16_t event;         /* the first event, 0 to 2047; extra ones are items of label 9 */
     uint16_t location;      /* 0 to 65535; INTER-ROAD: the FLT code */
     uint16_t real_location; /* INTER-ROAD: the location, a code of the foreign table; else 0 */
     uint8_t diversion;      /* 1 if a diversion is advised, else 0 */
@@ -507,14 +507,18 @@ uint16_t alertc_check_word(const uint8_t *bytes, size_t bytes_len);
 
 /* ---- The message table ---- */
 
-/* A table is ALERTC_RECORD_BYTES for each record, at most ALERTC_RECORDS, all 0 at the start. */
+/*
+ * A table is ALERTC_RECORD_BYTES for each record, at most ALERTC_RECORDS, all 0 at the start; the
+ * bytes of a free record are 0.
+ */
 #define ALERTC_RECORD_BYTES 34
 #define ALERTC_RECORDS 1024
 
 /*
  * A catalogue has an entry for each event code: bits 0 to 5 the update class, 6 and 7 the kind (0
  * unknown, 1 ordinary, 2 cancelling, 3 null), bit 8 the duration type, the rest 0; the class is 0
- * exactly if the kind is 0 or 3.
+ * exactly if the kind is 0 or 3: such an event has no class. A take looks up the events of the
+ * stored reports too, so a table goes with its catalogue.
  */
 #define ALERTC_EVENTS 2048
 #define ALERTC_CATALOGUE_ENTRY(update_class, kind, duration_type) \
@@ -544,10 +548,19 @@ struct alertc_table_answer {
 /*
  * Takes a report of a service at a minute, with the service's local time offset in half hours.
  * `clock` is the last accepted minute, 0 at the start. Frees the expired records and, for an
- * ordinary or cancelling event, those of the same service, location, direction and update class;
- * stores the report of an ordinary event in the lowest-numbered free record. Refused, in this
- * order: table, catalogue or lives, their sizes included (10), report, service or offset (9),
- * minute (13), location (12), event unknown (11), no room (14).
+ * ordinary or cancelling report, those that match it: of the same service, location and direction,
+ * and with an update class in common. Stores an ordinary report in the lowest-numbered free record.
+ * Refused, in this order: table, catalogue or lives, their sizes included (10), report, service or
+ * offset (9), minute (13), location (12), event unknown (11), no room (14).
+ *
+ * The kind of a report is that of its first event. Its classes are those of all its events, the
+ * first and each item of label 9, as the catalogue has them; so are those of a stored report. An
+ * extra event of kind 0 or 3 has no class and is passed over. One of kind 2 adds its class, and
+ * does not make the report cancelling.
+ *
+ * So a take reads what every used record holds, and also refuses (10) a table with a used record
+ * whose content does not read as items, or whose first event has no class in the catalogue. This
+ * is tested of records that are about to expire too, and whatever the kind of the report.
  *
  * A location has three parts: country, table number and code. Of an INTER-ROAD report they are the
  * FLT code's two and the real location, of any other the service's two and `location`. So a report
@@ -561,7 +574,10 @@ struct alertc_table_answer alertc_table_take(uint8_t *table, size_t table_len,
                                              struct alertc_service service, uint32_t minute,
                                              int8_t lto);
 
-/* Frees the records that expire at or before a minute. Refused: table (10), minute (13). */
+/*
+ * Frees the records that expire at or before a minute. Refused: table (10), minute (13). Neither
+ * the items of a record nor the class of its event is looked at.
+ */
 struct alertc_table_answer alertc_table_expire(uint8_t *table, size_t table_len, uint32_t *clock,
                                                uint32_t minute);
 
