@@ -1360,7 +1360,7 @@ static struct alertc_report report_of(uint16_t event) {
     return r;
 }
 
-/* The report as a multi-group one, with an extra event before its other items. */
+/* The report as a multi-group one, with an additional event before its other items. */
 static struct alertc_report with_event(struct alertc_report r, uint16_t event) {
     if (r.form == ALERTC_SINGLE_GROUP) {
         r.form = ALERTC_MULTI_GROUP;
@@ -1485,7 +1485,7 @@ static void classes(void) {
     SAME(ALERTC_CATALOGUE_ENTRY(9, 2, 0), 0x89);
     SAME(ALERTC_CATALOGUE_ENTRY(0, 3, 0), 0xC0);
 
-    /* An extra event of the record. */
+    /* An additional event of the record. */
     const struct alertc_report lane_closed = with_event(report_of(201), 641);
     MEETS(lane_closed, report_of(2028), freeing(0, 1));
     MEETS(lane_closed, report_of(641), storing(0, 1, 0));
@@ -1506,7 +1506,7 @@ static void classes(void) {
     MEETS(with_event(report_of(201), 663), with_event(report_of(641), 663), storing(0, 1, 0));
     MEETS(with_event(report_of(201), 663), report_of(2028), freeing(0, 0));
 
-    /* Extra events that are null or unknown have no class, not even a common one. */
+    /* Additional events that are null or unknown have no class, not even a common one. */
     const uint16_t classless[] = {2047, 1000};
     for (size_t i = 0; i < 2; i++) {
         const struct alertc_report passed_over = with_event(report_of(201), classless[i]);

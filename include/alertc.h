@@ -212,7 +212,7 @@ enum alertc_form { ALERTC_SINGLE_GROUP = 0, ALERTC_MULTI_GROUP = 1 };
 
 /* An item of a multi-group message's content. */
 struct alertc_item {
-    uint16_t label; /* 0 to 14; 9: an extra event */
+    uint16_t label; /* 0 to 14; 9: an additional event */
     uint16_t value; /* within the label's width; of label 9 the event, 0 to 2047 */
 };
 
@@ -242,7 +242,7 @@ struct alertc_report {
     size_t item_count;
     uint8_t direction;      /* 0 positive, 1 negative */
     uint8_t extent;         /* 0 to 7 */
-    uint16_t event;         /* the first event, 0 to 2047; extra ones are items of label 9 */
+    uint16_t event;         /* the first event, 0 to 2047; others are items of label 9 */
     uint16_t location;      /* 0 to 65535; INTER-ROAD: the FLT code */
     uint16_t real_location; /* INTER-ROAD: the location, a code of the foreign table; else 0 */
     uint8_t diversion;      /* 1 if a diversion is advised, else 0 */
@@ -555,8 +555,8 @@ struct alertc_table_answer {
  *
  * The kind of a report is that of its first event. Its classes are those of all its events, the
  * first and each item of label 9, as the catalogue has them; so are those of a stored report. An
- * extra event of kind 0 or 3 has no class and is passed over. One of kind 2 adds its class, and
- * does not make the report cancelling.
+ * additional event of kind 0 or 3 has no class and is passed over. One of kind 2 adds its class,
+ * and does not make the report cancelling.
  *
  * So a take reads what every used record holds, and also refuses (10) a table with a used record
  * whose content does not read as items, or whose first event has no class in the catalogue. This

@@ -5,7 +5,8 @@ use mathlib.Core.Path.{_≡_, refl, sym, ap, _∙_}
 use mathlib.Core.Bool.{Bool, true, false}
 use mathlib.Core.List.{List, [], _∷_, _++_, append-assoc, append-nil}
 use Rattle.bits.specs.Bits.{allZero}
-use Rattle.bits.specs.Outcome.{gives, refused}
+use Rattle.bits.specs.Outcome.{gives, refused, given}
+use Rattle.bits.proofs.Outcomes.{mapped-given}
 use Rattle.content.specs.Widths.{labelWidth}
 use Rattle.content.specs.Items.{item, unfit, first, Reading, prepend, items}
 use Rattle.content.specs.Halves.{remaining}
@@ -34,6 +35,10 @@ module _ (found : List Item) (l : List Bool) where
 
   pub found-one : (i : Item) (rest : List Bool) → allZero l ≡ false → first l ≡ item i rest → appended found (items l) ≡ appended (found ++ (i ∷ [])) (items rest)
   found-one i rest z e = ap (appended found) (items-item l i rest z e) ∙ sym (appended-after found i (items rest))
+
+-- bits with an item in front read if those after it do
+pub one-reads : (l : List Bool) (i : Item) (rest : List Bool) → allZero l ≡ false → first l ≡ item i rest → given (items l) ≡ given (items rest)
+one-reads l i rest z e = ap given (items-item l i rest z e) ∙ mapped-given (λ its. i ∷ its) (items rest)
 
 -- what taking one item tells
 module _ (r : Rest) (x : Taken) (e : firstOf x ≡ first (remaining r)) where

@@ -1,8 +1,8 @@
 // The items of content bits.
 ghost use mathlib.Core.Path.{_≡_};
-ghost use Prim.Native.Nat.{_+_, _*_, _≤_};
+ghost use Prim.Native.Nat.{_+_, _*_, _<_, _≤_};
 ghost use lib.ListN.{length, take};
-ghost use Rattle.bits.specs.Outcome.{refused};
+ghost use Rattle.bits.specs.Outcome.{refused, given};
 ghost use Rattle.content.specs.Items.{items};
 ghost use Rattle.content.specs.Content.{content};
 ghost use Rattle.content.specs.Packing.{longest};
@@ -69,6 +69,30 @@ fn read_rest(rest: Rest, count: &mut usize, cells: &mut [u16; Items::CELLS]) -> 
             read_rest(next, count, cells)
         }
         Taken::Refused(n) => n,
+    }
+}
+
+// Whether the first `n` bits read as items: false exactly where `read` refuses them.
+pub fn reads(c: Content, n: usize) -> bool
+    ensures { λ b. ⌜ b ≡ given (content (take n (bitsOf c))) ⌝ }
+{
+    if n > Content::LONGEST {
+        return false;
+    }
+    rest_reads(Rest { bits: c, left: n })
+}
+
+// Whether the rest reads as items: it is all zero, or one item can be taken and the rest after it reads.
+fn rest_reads(rest: Rest) -> bool
+    requires { ⌜ rest .left < 128 ⌝ }
+    ensures { λ b. ⌜ b ≡ given (items (remaining rest)) ⌝ }
+{
+    if rest.is_zero() {
+        return true;
+    }
+    match rest.take_item() {
+        Taken::Item(_, next) => rest_reads(next),
+        Taken::Refused(_) => false,
     }
 }
 

@@ -1,15 +1,14 @@
 -- Freeing by one test and else by another, bytes that may not be one record's.
 use Prim.Native.Nat.{ℕ}
 use native.Mathlib.Omega.{arith}
-use mathlib.Core.Path.{_≡_, refl, sym, ap, ap₂, subst, _∙_}
-use mathlib.Core.Bool.{Bool, true, false, _&&_}
+use mathlib.Core.Path.{_≡_, refl, sym, ap, subst, _∙_}
+use mathlib.Core.Bool.{Bool, true, false}
 use mathlib.Core.List.{List}
 use lib.ListN.{length, replicate}
 use borrow.Author.Tests.{eqb-true, eqb-false}
 use Rattle.bits.specs.Bits.{num}
 use Rattle.bits.proofs.Choice.{and-left, and-right}
-use Rattle.record.specs.declared.Freed.{Freed}
-use Rattle.record.specs.Layout.{recordSize, isRecord, freeRecord}
+use Rattle.record.specs.Layout.{recordSize, isRecord}
 use Rattle.record.specs.Gone.{freedIf, oneRecord}
 use Rattle.record.proofs.Steps.{freed, unfreed, one-record, Went, went-none, went-first, went-matched, went-kept}
 

@@ -10,7 +10,7 @@ use Rattle.report.specs.declared.Report.{Report}
 use Rattle.record.specs.declared.Service.{Service}
 use Rattle.record.specs.declared.Key.{Key}
 use Rattle.record.specs.Layout.{freeRecord, isFree}
-use Rattle.record.specs.Classes.{anyOf, share, setOf, meet}
+use Rattle.record.specs.Classes.{anyOf, share}
 use Rattle.record.specs.Keys.{alike}
 use Rattle.record.proofs.ClassSets.{sets-share}
 use Rattle.lent.specs.Catalogue.{entryAt, hasClass}

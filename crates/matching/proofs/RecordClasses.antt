@@ -1,20 +1,20 @@
--- The classes of a record by what it reads as.
+-- The classes of a record by its message, and whether it has them by its tests.
 use Prim.Native.Nat.{ℕ}
-use mathlib.Core.Path.{_≡_, sym, ap, _∙_}
-use mathlib.Core.List.{List, []}
-use Rattle.record_report.specs.declared.Reading.{Reading}
-use Rattle.record_report.specs.declared.Answer.{Answer}
-use Rattle.record_report.specs.Reads.{readingOf}
+use mathlib.Core.Path.{_≡_, sym, ap, ap₂}
+use mathlib.Core.Bool.{Bool, _&&_, _||_}
+use mathlib.Core.List.{List}
+use Rattle.bits.specs.Outcome.{Outcome, given}
+use Rattle.report.specs.declared.Report.{Report}
+use Rattle.record.specs.Layout.{isFree, eventIn}
+use Rattle.record_report.specs.Reads.{messageOf}
 use Rattle.lent.specs.Catalogue.{entryAt, hasClass}
-use Rattle.matching.specs.Classes.{classesOf, ifRead, classesIn, classedBy, classed}
+use Rattle.matching.specs.Classes.{messageClasses, classesIn, classed}
 
-module _ (c r : List ℕ) (x : Reading) (a : Answer) (e : x ≡ readingOf r) (f : x .answer ≡ a) where
-  pub classes-by : ifRead a (classesOf c (x .report)) [] ≡ classesIn c r
+module _ (c r : List ℕ) where
+  pub classes-by : (m : Outcome Report ℕ) → messageOf r ≡ m → messageClasses c m ≡ classesIn c r
   unfolding classesIn
-  classes-by = ap (λ (b : Answer). ifRead b (classesOf c (x .report)) []) (sym f) ∙ ap (λ (y : Reading). ifRead (y .answer) (classesOf c (y .report)) []) e
+  classes-by m e = ap (messageClasses c) (sym e)
 
-  pub classed-by : classedBy a (hasClass (entryAt c (x .report .head .event))) ≡ classed c r
+  pub classed-by : (free has : Bool) → isFree r ≡ free → hasClass (entryAt c (eventIn r)) ≡ has → classed c r ≡ free || has && given (messageOf r)
   unfolding classed
-  classed-by =
-      ap (λ (b : Answer). classedBy b (hasClass (entryAt c (x .report .head .event)))) (sym f)
-      ∙ ap (λ (y : Reading). classedBy (y .answer) (hasClass (entryAt c (y .report .head .event)))) e
+  classed-by free has e f = ap₂ (λ (x y : Bool). x || y && given (messageOf r)) e f

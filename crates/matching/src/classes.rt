@@ -11,8 +11,8 @@ use content::item::Item;
 use content::items::Items;
 use lent::catalogue::Entry;
 use record::classes::Classes;
-use record_report::Answer;
-use record_report::read::read;
+use record_report::read::message_of;
+use report::Answer;
 use report::Report;
 
 // The label of an additional event.
@@ -27,15 +27,14 @@ pub fn of_report(report: Report, catalogue: &[u16]) -> Classes
     with_event(of_items(items, catalogue), head.event, catalogue)
 }
 
-// The classes of a record: those of the report that it reads as. Bytes that read as none have none.
+// The classes of a record: those of the report that it reads as; none where it does not read.
 pub fn of_record(r: &[u8], catalogue: &[u16]) -> Classes
     ensures { λ s. ⌜ s .0 ≡ setOf (classesIn (now (catalogue .entry)) (now (r .entry))) ⌝ }
 {
-    let reading = read(r);
+    let reading = message_of(r);
     let answer = reading.answer;
     let report = reading.report;
     match answer {
-        Answer::Free => Classes::new(),
         Answer::Read => of_report(report, catalogue),
         Answer::Refused(_) => Classes::new(),
     }

@@ -1,12 +1,13 @@
 // Whether the records of a table have update classes.
 ghost use mathlib.Core.Path.{_≡_};
+ghost use Rattle.record.specs.Gone.{oneRecord};
 ghost use Rattle.matching.specs.Classes.{classed, allClassed};
 use lent::catalogue::Entry;
 use record::Record;
-use record_report::Answer;
-use record_report::read::read;
+use record::fields::event;
+use record_report::read::reads;
 
-// Whether every record is free or reads as a report whose first event has an update class.
+// Whether every record is free, or has a first event with an update class and content that reads as items.
 pub fn all_classed(t: &[u8], catalogue: &[u16]) -> bool
     ensures { λ b. ⌜ b ≡ allClassed (now (catalogue .entry)) (now (t .entry)) ⌝ }
 {
@@ -23,17 +24,20 @@ pub fn all_classed(t: &[u8], catalogue: &[u16]) -> bool
     true
 }
 
-// Whether a record is free or reads as such a report.
+// Whether a record is free, or has a first event with an update class and content that reads as items. Bytes that are not one record's have
+// not.
 fn is_classed(r: &[u8], catalogue: &[u16]) -> bool
-    ensures { λ b. ⌜ b ≡ classed (now (catalogue .entry)) (now (r .entry)) ⌝ }
+    ensures { λ b. ⌜ b ≡ oneRecord (classed (now (catalogue .entry))) (now (r .entry)) ⌝ }
 {
-    let reading = read(r);
-    let answer = reading.answer;
-    let report = reading.report;
-    let head = report.head;
-    match answer {
-        Answer::Free => true,
-        Answer::Read => Entry::of_event(catalogue, head.event).has_class(),
-        Answer::Refused(_) => false,
+    if r.len() != Record::SIZE {
+        return false;
     }
+    if r[Record::MARK] == 0 {
+        return true;
+    }
+    let entry = Entry::of_event(catalogue, event(r));
+    if !entry.has_class() {
+        return false;
+    }
+    reads(r)
 }

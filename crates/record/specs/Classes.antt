@@ -1,4 +1,4 @@
--- Update classes: of two reports, as lists, and as a set that the code keeps (document 02, R-4).
+-- Update classes that two reports share, and a set of classes as a number (ISO 14819-1, clause 6.4; document 02, R-4).
 use Prim.Native.Nat.{ℕ, _^_}
 use mathlib.Core.Bool.{Bool, false, not, _||_}
 use mathlib.Core.List.{List, [], _∷_}
@@ -10,15 +10,15 @@ unfoldable pub anyOf : (ℕ → Bool) → List ℕ → Bool
 anyOf p [] = false
 anyOf p (x ∷ xs) = p x || anyOf p xs
 
--- classes share one
+-- two lists of classes share one
 unfoldable pub share : (xs ys : List ℕ) → Bool
 share xs ys = anyOf (λ x. anyOf (eqb x) ys) xs
 
--- the set of classes is a number, class c as bit c: with one class more
+-- in a set class c is bit c: a set with one class more
 abbrev pub withClass : (set class : ℕ) → ℕ
 withClass set class = bitOr set (2 ^ class)
 
--- of these classes
+-- the set of these classes
 unfoldable pub setOf : List ℕ → ℕ
 setOf [] = 0
 setOf (c ∷ cs) = withClass (setOf cs) c

@@ -55,8 +55,12 @@ locationIn r = record { country = byteAt r 32; ltn = byteAt r 33; code = twoAt r
 abbrev pub directionIn : List ℕ → ℕ
 directionIn r = byteAt r 8
 
+-- the first event
+abbrev pub eventIn : List ℕ → ℕ
+eventIn r = twoAt r 6
+
 abbrev pub headIn : List ℕ → Head
-headIn r = record { direction = directionIn r; extent = byteAt r 9; event = twoAt r 6; location = headLocation (serviceIn r) (locationIn r) }
+headIn r = record { direction = directionIn r; extent = byteAt r 9; event = eventIn r; location = headLocation (serviceIn r) (locationIn r) }
 
 abbrev pub realIn : List ℕ → ℕ
 realIn r = realLocation (serviceIn r) (locationIn r)

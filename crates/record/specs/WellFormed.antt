@@ -28,9 +28,13 @@ rangesFit r = within (cond (isFree r) (replicate recordSize 0) widths) r
 unfoldable pub marked : List ℕ → Bool
 marked r = not (eqb (expiryIn r) 0) && not (eqb (classIn r) 0)
 
--- one to five groups, and these
+-- one to five groups
+abbrev pub groupsFit : List ℕ → Bool
+groupsFit r = leb 1 (groupsIn r) && leb (groupsIn r) 5
+
+-- these, and an expiry and a class
 unfoldable pub complete : List ℕ → Bool
-complete r = (leb 1 (groupsIn r) && leb (groupsIn r) 5) && marked r
+complete r = groupsFit r && marked r
 
 -- the content bits of its groups
 abbrev pub contentBits : List ℕ → ℕ

@@ -2,7 +2,7 @@
 ghost use mathlib.Core.Path.{_≡_};
 ghost use Prim.Native.Nat.{_+_, _≤_};
 ghost use lib.ListN.{length};
-ghost use Rattle.record.specs.Layout.{recordSize, asRecord, twoAt, fourAt, expiryIn, locationIn, serviceIn, headIn, realIn};
+ghost use Rattle.record.specs.Layout.{recordSize, asRecord, twoAt, fourAt, expiryIn, locationIn, serviceIn, eventIn, headIn, realIn};
 use crate::Record;
 use crate::Service;
 use clock::Utc;
@@ -66,6 +66,16 @@ pub fn service(r: &[u8]) -> Service
     }
 }
 
+// The first event.
+pub fn event(r: &[u8]) -> u16
+    ensures { λ n. ⌜ n ≡ eventIn (asRecord (now (r .entry))) ⌝ }
+{
+    if r.len() != Record::SIZE {
+        return 0;
+    }
+    two(r, Record::EVENT)
+}
+
 pub fn head(r: &[u8]) -> Head
     ensures { λ h. ⌜ h ≡ headIn (asRecord (now (r .entry))) ⌝ }
 {
@@ -82,7 +92,7 @@ pub fn head(r: &[u8]) -> Head
     Head {
         direction: r[Record::DIRECTION],
         extent: r[Record::EXTENT],
-        event: two(r, Record::EVENT),
+        event: event(r),
         location,
     }
 }

@@ -1,15 +1,16 @@
 -- The ways out of reading a record.
 use Prim.Native.Nat.{ℕ, _≤_}
 use mathlib.Core.Path.{_≡_, sym, ap, ap₂, _∙_}
-use mathlib.Core.Bool.{Bool, true, _&&_}
+use mathlib.Core.Bool.{Bool, true, cond, _&&_}
 use mathlib.Core.List.{List}
 use native.Mathlib.Omega.{arith}
 use lib.ListN.{length, take}
 use lib.Seq.{take-take}
-use borrow.Author.Tests.{eq-eqb, ne-eqb}
+use lib.Dec.{leb}
+use borrow.Author.Tests.{eqb-true, leb-true, eq-eqb, ne-eqb}
 use Rattle.bits.specs.Fields.{flat}
-use Rattle.bits.specs.Outcome.{Outcome, gives}
-use Rattle.bits.proofs.Choice.{chosen, passed-over}
+use Rattle.bits.specs.Outcome.{Outcome, gives, refused}
+use Rattle.bits.proofs.Choice.{and-left, and-right, chosen, passed-over}
 use Rattle.content.specs.declared.content.Content.{Content}
 use Rattle.content.specs.Halves.{bitsOf}
 use Rattle.content.specs.Packing.{longest}
@@ -20,10 +21,11 @@ use Rattle.report.specs.Report.{singleReport}
 use Rattle.report.specs.Read.{readItems, outcomeOf}
 use Rattle.report.proofs.Outcomes.{was-read, was-refused}
 use Rattle.record.specs.declared.Service.{Service}
-use Rattle.record.specs.Layout.{recordSize, byteAt, groupsIn, headIn, realIn, durationIn, diversionIn, contentIn, serviceIn, expiryIn}
-use Rattle.record.specs.WellFormed.{contentBits, wellFormed}
+use Rattle.record.specs.Layout.{recordSize, isRecord, byteAt, groupsIn, headIn, realIn, durationIn, diversionIn, contentIn, serviceIn, expiryIn}
+use Rattle.record.specs.Gone.{oneRecord}
+use Rattle.record.specs.WellFormed.{groupsFit, contentBits, wellFormed}
 use Rattle.record_report.specs.declared.Answer.the-variants.{Free, Read, Refused}
-use Rattle.record_report.specs.Reads.{withReal, messageIn, nothing, answered, readingIn, readingOf}
+use Rattle.record_report.specs.Reads.{withReal, messageIn, messageOf, nothing, answered, readingIn, readingOf}
 
 -- the message of a record by its groups
 module _ (r : List ℕ) where
@@ -34,6 +36,20 @@ module _ (r : List ℕ) where
   pub multi-message : (groupsIn r ≡ 1 → ⊥) → messageIn r ≡ readItems (headIn r) (realIn r) (take (contentBits r) (flat 8 (contentIn r)))
   unfolding messageIn
   multi-message e = passed-over _ _ _ (ne-eqb (groupsIn r) 1 e)
+
+  -- the message of any bytes, by the test of their groups
+  pub has-known : oneRecord groupsFit r ≡ true → (length r ≡ recordSize) × (1 ≤ groupsIn r) × (groupsIn r ≤ 5)
+  unfolding oneRecord
+  has-known h =
+      let few = and-right (isRecord r) (groupsFit r) h in (
+        eqb-true (length r) recordSize (and-left (isRecord r) (groupsFit r) h),
+        leb-true 1 (groupsIn r) (and-left (leb 1 (groupsIn r)) (leb (groupsIn r) 5) few),
+        leb-true (groupsIn r) 5 (and-right (leb 1 (groupsIn r)) (leb (groupsIn r) 5) few),
+      )
+
+  pub message-by : (b : Bool) → oneRecord groupsFit r ≡ b → messageOf r ≡ cond b (messageIn r) (refused 10)
+  unfolding messageOf
+  message-by b e = ap (λ (x : Bool). cond x (messageIn r) (refused 10)) e
 
   -- the first bits of the content as it is held
   pub held-bits : (x : Content) → groupsIn r ≤ 5 → take longest (bitsOf x) ≡ flat 8 (contentIn r) → take (contentBits r) (bitsOf x) ≡ take (contentBits r) (flat 8 (contentIn r))

@@ -11,7 +11,8 @@ use Rattle.report.specs.Report.{singleReport, blank}
 use Rattle.report.specs.Read.{readItems}
 use Rattle.record.specs.declared.Service.{Service}
 use Rattle.record.specs.Layout.{isRecord, isFree, groupsIn, headIn, realIn, durationIn, diversionIn, contentIn, serviceIn, expiryIn}
-use Rattle.record.specs.WellFormed.{contentBits, wellFormed}
+use Rattle.record.specs.Gone.{oneRecord}
+use Rattle.record.specs.WellFormed.{groupsFit, contentBits, wellFormed}
 use Rattle.record_report.specs.declared.Reading.{Reading}
 use Rattle.record_report.specs.declared.Answer.{Answer}
 use Rattle.record_report.specs.declared.Answer.the-variants.{Free, Read, Refused}
@@ -25,6 +26,10 @@ unfoldable pub messageIn : List ℕ → Outcome Report ℕ
 messageIn r =
     cond (eqb (groupsIn r) 1) (gives (withReal (realIn r) (singleReport (durationIn r) (diversionIn r) (headIn r))))
     (readItems (headIn r) (realIn r) (take (contentBits r) (flat 8 (contentIn r))))
+
+-- that of any bytes: those that are not one record's, or have not one to five groups, are refused (10)
+unfoldable pub messageOf : List ℕ → Outcome Report ℕ
+messageOf r = cond (oneRecord groupsFit r) (messageIn r) (refused 10)
 
 -- an answer with no report
 unfoldable pub nothing : Answer → Reading

@@ -3,11 +3,14 @@ ghost use mathlib.Core.Path.{_≡_};
 ghost use Prim.Native.Nat.{_≤_};
 ghost use lib.ListN.{length, take};
 ghost use Rattle.bits.specs.Fields.{flat};
+ghost use Rattle.bits.specs.Outcome.{given};
 ghost use Rattle.content.specs.Halves.{bitsOf};
 ghost use Rattle.content.specs.Packing.{longest};
 ghost use Rattle.report.specs.Read.{outcomeOf};
 ghost use Rattle.record.specs.Layout.{recordSize, groupsIn, contentIn};
-ghost use Rattle.record_report.specs.Reads.{messageIn, readingOf, nothing, withReal};
+ghost use Rattle.record.specs.WellFormed.{groupsFit};
+ghost use Rattle.record.specs.Gone.{oneRecord};
+ghost use Rattle.record_report.specs.Reads.{messageIn, messageOf, readingOf, nothing, withReal};
 use crate::Answer;
 use crate::Reading;
 use bits::bytes::load;
@@ -68,6 +71,45 @@ pub fn nothing(answer: Answer) -> Reading
         },
         expiry: Utc(0),
     }
+}
+
+// The report of a record, free or not. Bytes that are not one record's, or have not one to five groups, are refused (10), then content that
+// does not read as items (7 or 8).
+pub fn message_of(r: &[u8]) -> MessageReading
+    ensures { λ x. ⌜ x ≡ outcomeOf (messageOf (now (r .entry))) ⌝ }
+{
+    if !has_groups(r) {
+        return MessageReading {
+            answer: report::Answer::Refused(10),
+            report: Report::new(),
+        };
+    }
+    message(r)
+}
+
+// Whether `message_of` refuses nothing.
+pub fn reads(r: &[u8]) -> bool
+    ensures { λ b. ⌜ b ≡ given (messageOf (now (r .entry))) ⌝ }
+{
+    if !has_groups(r) {
+        return false;
+    }
+    let groups = r[Record::GROUPS] as usize;
+    if groups == 1 {
+        return true;
+    }
+    content::read::reads(content(r), Content::GROUP * (groups - 1))
+}
+
+// Whether the bytes are one record's, with one to five groups.
+fn has_groups(r: &[u8]) -> bool
+    ensures { λ b. ⌜ b ≡ oneRecord groupsFit (now (r .entry)) ⌝ }
+{
+    if r.len() != Record::SIZE {
+        return false;
+    }
+    let groups = r[Record::GROUPS];
+    (1 <= groups) & (groups <= Record::MOST_GROUPS)
 }
 
 fn message(r: &[u8]) -> MessageReading

@@ -23,15 +23,14 @@ use Rattle.report.specs.InterRoad.{interRoad, itemsAt, realBits, contentOf}
 use Rattle.report.specs.Fits.{singleFits, agrees, itemsFit, contentFits, multiFits, fitsBy, realFits, reportFits}
 use Rattle.clock.specs.Time.{offsetFits}
 use Rattle.record.specs.declared.Service.{Service}
-use Rattle.record.specs.Layout.{freeRecord}
 use Rattle.record.specs.Locations.{locationOf, headLocation, realLocation}
 use Rattle.record.specs.Classes.{anyOf, share}
 use Rattle.record.specs.Keys.{alike}
-use Rattle.record.specs.Gone.{expired, freedIf}
+use Rattle.record.specs.Gone.{expired, freedIf, oneRecord}
 use Rattle.record.specs.WellFormed as form
 use Rattle.record_report.specs.declared.Answer.the-variants as reading
 use Rattle.record_report.specs.Made.{recordOf, expiryBytes}
-use Rattle.record_report.specs.Reads.{messageIn, nothing, answered, readingIn, readingOf}
+use Rattle.record_report.specs.Reads.{messageIn, messageOf, nothing, answered, readingIn}
 use Rattle.lent.specs.Records.{chunks, records, allOf}
 use Rattle.lent.specs.Table.{sized, tableFits}
 use Rattle.lent.specs.Catalogue.{entryFits, catalogueFits}
@@ -40,7 +39,6 @@ use Rattle.lent.specs.Lent.{lentFit}
 use Rattle.matching.specs.Events.{additionalEvents, eventsOf}
 use Rattle.matching.specs.Classes.{eventClasses, classesOf, classesIn, classed}
 use Rattle.matching.specs.Matching.{matching}
-use Rattle.checks.specs.declared.Arrival.{Arrival}
 use Rattle.checks.specs.Checks.{askedFit, laterRefusal, checkRefusal}
 use Rattle.table.specs.declared.Step.{Step}
 use Rattle.table.specs.declared.Answer.the-variants.{Freed, Stored, Refused}
@@ -100,5 +98,5 @@ pub additional-events :
     × (recordAt (unreadable 160) 0 ≡ nothing (reading.Refused 7))
     -- so is a first event that the catalogue does not know, whatever class the record has
     × (taking (stored (single 300) 5 160) (single 2028) ≡ step 0 (Refused 10))
-unfolding bit bits num val allZero flat fits unpack words widths width valued labelled first andThen readBy itemsWithin items content filled listed wellPlaced allZeroItems itemBits packing itemFits allFit zeroItem lastZero packable writable firstWhere readItems bytesOf groupsFor groupsOf fltFields isFlt foreign interRoad itemsAt realBits contentOf singleFits agrees itemsFit contentFits multiFits fitsBy realFits reportFits offsetFits locationOf headLocation realLocation anyOf share alike expired freedIf form.widths form.within form.rangesFit form.marked form.complete form.restFits form.wellFormed recordOf messageIn nothing answered readingIn readingOf chunks records allOf joined sized tableFits entryFits catalogueFits livesFit lentFit additionalEvents eventsOf eventClasses classesOf classesIn classed matching askedFit laterRefusal checkRefusal countIf firstOf over countWhere lowestFree afterMatching matchedIn placeIn expireRefusal expireStep recordAt matches takeRefusal takenStep takeStep
+unfolding bit bits num val allZero flat fits unpack words widths width valued labelled first andThen readBy itemsWithin items content filled listed wellPlaced allZeroItems itemBits packing itemFits allFit zeroItem lastZero packable writable firstWhere readItems bytesOf groupsFor groupsOf fltFields isFlt foreign interRoad itemsAt realBits contentOf singleFits agrees itemsFit contentFits multiFits fitsBy realFits reportFits offsetFits locationOf headLocation realLocation anyOf share alike expired freedIf form.widths form.within form.rangesFit form.marked form.complete form.restFits form.wellFormed oneRecord recordOf messageIn messageOf nothing answered readingIn chunks records allOf joined sized tableFits entryFits catalogueFits livesFit lentFit additionalEvents eventsOf eventClasses classesOf classesIn classed matching askedFit laterRefusal checkRefusal countIf firstOf over countWhere lowestFree afterMatching matchedIn placeIn expireRefusal expireStep recordAt matches takeRefusal takenStep takeStep
 additional-events = (refl, refl, refl, refl, refl, refl, refl, refl, refl, refl, refl, refl)

@@ -20,7 +20,6 @@ use Rattle.record.specs.Keys.{alike}
 use Rattle.record.specs.Gone.{expired, freedIf}
 use Rattle.record.specs.WellFormed.{widths, within, rangesFit, marked, complete, restFits, wellFormed}
 use Rattle.record_report.specs.Made.{expiryBytes}
-use Rattle.record_report.specs.Reads.{nothing, readingIn, readingOf}
 use Rattle.lent.specs.Records.{chunks, records, allOf}
 use Rattle.lent.specs.Table.{sized, tableFits}
 use Rattle.lent.specs.Catalogue.{entryFits, catalogueFits}
@@ -60,11 +59,11 @@ abbrev pub lives : List ℕ
 lives = replicate 16 60
 
 pub own-location : takeStep freeRecord catalogue lives 0 (arrival 0xFBFF) (pos 0) ≡ step 0 (Stored 0 0 0)
-unfolding bit bits flat allZero num widths within rangesFit marked complete restFits wellFormed expired alike nothing readingIn readingOf classed matching freedIf chunks records joined allOf countIf firstOf over countWhere lowestFree sized tableFits entryFits catalogueFits livesFit fits offsetFits filled wellPlaced allZeroItems zeroItem singleFits fitsBy reportFits lentFit isFlt fltFields unpack val locationOf interRoad itemsAt realFits askedFit laterRefusal checkRefusal matches afterMatching matchedIn placeIn takeRefusal takenStep takeStep
+unfolding bit bits flat allZero num widths within rangesFit marked complete restFits wellFormed expired alike classed matching freedIf chunks records joined allOf countIf firstOf over countWhere lowestFree sized tableFits entryFits catalogueFits livesFit fits offsetFits filled wellPlaced allZeroItems zeroItem singleFits fitsBy reportFits lentFit isFlt fltFields unpack val locationOf interRoad itemsAt realFits askedFit laterRefusal checkRefusal matches afterMatching matchedIn placeIn takeRefusal takenStep takeStep
 own-location = refl
 
 pub foreign-location : takeStep freeRecord catalogue lives 0 (arrival 0xFC00) (pos 0) ≡ step 0 (Refused 12)
-unfolding bit bits flat allZero num widths within rangesFit marked complete restFits wellFormed expired alike nothing readingIn readingOf classed matching freedIf chunks records joined allOf countIf firstOf over countWhere lowestFree sized tableFits entryFits catalogueFits livesFit fits offsetFits filled wellPlaced allZeroItems zeroItem singleFits fitsBy reportFits lentFit isFlt fltFields unpack val locationOf interRoad itemsAt realFits askedFit laterRefusal checkRefusal matches afterMatching matchedIn placeIn takeRefusal takenStep takeStep
+unfolding bit bits flat allZero num widths within rangesFit marked complete restFits wellFormed expired alike classed matching freedIf chunks records joined allOf countIf firstOf over countWhere lowestFree sized tableFits entryFits catalogueFits livesFit fits offsetFits filled wellPlaced allZeroItems zeroItem singleFits fitsBy reportFits lentFit isFlt fltFields unpack val locationOf interRoad itemsAt realFits askedFit laterRefusal checkRefusal matches afterMatching matchedIn placeIn takeRefusal takenStep takeStep
 foreign-location = refl
 
 -- an INTER-ROAD report without items at a real location in table 1 of country 13
@@ -72,9 +71,9 @@ abbrev pub inter-road : ℕ → Arrival
 inter-road real = record { report = multiReport (record { direction = 0; extent = 0; event = 0; location = 0xFF41 }) real []; service = record { country = 1; ltn = 1; sid = 1 }; minute = record { 0 = 0 } }
 
 pub real-location : takeStep freeRecord catalogue lives 0 (inter-road 0xFBFF) (pos 0) ≡ step 0 (Stored 0 0 0)
-unfolding bit bits flat allZero num widths within rangesFit marked complete restFits wellFormed expired alike nothing readingIn readingOf classed matching freedIf chunks records joined allOf countIf firstOf over countWhere lowestFree sized tableFits entryFits catalogueFits livesFit fits offsetFits filled wellPlaced allZeroItems zeroItem listed itemBits packing allFit lastZero packable writable firstWhere realBits contentOf agrees itemsFit contentFits multiFits singleFits fitsBy reportFits lentFit isFlt fltFields unpack val foreign locationOf interRoad itemsAt realFits askedFit laterRefusal checkRefusal matches afterMatching matchedIn placeIn takeRefusal takenStep takeStep
+unfolding bit bits flat allZero num widths within rangesFit marked complete restFits wellFormed expired alike classed matching freedIf chunks records joined allOf countIf firstOf over countWhere lowestFree sized tableFits entryFits catalogueFits livesFit fits offsetFits filled wellPlaced allZeroItems zeroItem listed itemBits packing allFit lastZero packable writable firstWhere realBits contentOf agrees itemsFit contentFits multiFits singleFits fitsBy reportFits lentFit isFlt fltFields unpack val foreign locationOf interRoad itemsAt realFits askedFit laterRefusal checkRefusal matches afterMatching matchedIn placeIn takeRefusal takenStep takeStep
 real-location = refl
 
 pub no-real-location : takeStep freeRecord catalogue lives 0 (inter-road 0xFC00) (pos 0) ≡ step 0 (Refused 12)
-unfolding bit bits flat allZero num widths within rangesFit marked complete restFits wellFormed expired alike nothing readingIn readingOf classed matching freedIf chunks records joined allOf countIf firstOf over countWhere lowestFree sized tableFits entryFits catalogueFits livesFit fits offsetFits filled wellPlaced allZeroItems zeroItem listed itemBits packing allFit lastZero packable writable firstWhere realBits contentOf agrees itemsFit contentFits multiFits singleFits fitsBy reportFits lentFit isFlt fltFields unpack val foreign locationOf interRoad itemsAt realFits askedFit laterRefusal checkRefusal matches afterMatching matchedIn placeIn takeRefusal takenStep takeStep
+unfolding bit bits flat allZero num widths within rangesFit marked complete restFits wellFormed expired alike classed matching freedIf chunks records joined allOf countIf firstOf over countWhere lowestFree sized tableFits entryFits catalogueFits livesFit fits offsetFits filled wellPlaced allZeroItems zeroItem listed itemBits packing allFit lastZero packable writable firstWhere realBits contentOf agrees itemsFit contentFits multiFits singleFits fitsBy reportFits lentFit isFlt fltFields unpack val foreign locationOf interRoad itemsAt realFits askedFit laterRefusal checkRefusal matches afterMatching matchedIn placeIn takeRefusal takenStep takeStep
 no-real-location = refl

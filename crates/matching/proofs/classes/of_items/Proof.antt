@@ -13,7 +13,6 @@ use Rattle.record.specs.Classes.{setOf}
 use Rattle.matching.specs.Events.{additionalEvents}
 use Rattle.matching.specs.Classes.{eventClasses}
 use Rattle.matching.proofs.EventClasses.{listed-within}
-use borrow.Author.Needs.{needs}
 use Rattle.matching.proofs.classes.of_items.Statement.{statement}
 use Rattle.matching.proofs.classes.of_items.Tie as tie
 

@@ -1,5 +1,4 @@
 -- By whether the event has a class.
-use Prim.Native.Nat.{ℕ}
 use mathlib.Core.Path.{sym, ap, ap₂, _∙_}
 use Rattle.record.specs.Classes.{withClass}
 use Rattle.lent.specs.Catalogue.{classOf, hasClass}

@@ -1,10 +1,9 @@
 -- Freed as expired, as matching, or as it was.
 use Prim.Native.Nat.{ℕ}
-use mathlib.Core.Path.{_≡_, sym, ap, subst, _∙_}
+use mathlib.Core.Path.{sym, ap, _∙_}
 use mathlib.Core.List.{List}
 use lib.ListN.{length, replicate}
 use Rattle.record.specs.Gone.{expired, oneRecord}
-use Rattle.record.proofs.Steps.{Went}
 use Rattle.matching.specs.Matching.{keyMatches}
 use Rattle.matching.proofs.Gone.{first-gone, not-first, second-gone, none-gone}
 use borrow.Author.Needs.{needs}

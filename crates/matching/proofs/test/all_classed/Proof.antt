@@ -4,11 +4,13 @@ use native.Mathlib.Omega.{arith}
 use mathlib.Core.Path.{_≡_, sym, ap, _∙_}
 use mathlib.Core.Bool.{Bool, true, false, _&&_}
 use mathlib.Core.List.{List}
-use lib.ListN.{length, drop}
+use lib.ListN.{length, take, drop}
 use borrow.Author.Tests.{not-true, not-false}
 use Rattle.record.specs.Layout.{recordSize}
+use Rattle.record.specs.Gone.{oneRecord}
+use Rattle.record.proofs.Steps.{one-record}
 use Rattle.lent.specs.Records.{chunks, records, allOf}
-use Rattle.lent.proofs.Passes.{nth, part-is, rest-whole, all-next, all-end}
+use Rattle.lent.proofs.Passes.{nth, part-is, length-part, rest-whole, all-next, all-end}
 use Rattle.matching.specs.Classes.{classed}
 use borrow.Author.Needs.{needs}
 use Rattle.matching.proofs.test.all_classed.Statement.{statement}
@@ -17,6 +19,10 @@ use Rattle.matching.proofs.test.all_classed.Tie as tie
 -- those from record i on
 abbrev from : (t k : List ℕ) → ℕ → Bool
 from t k i = allOf (classed k) (chunks (length t / recordSize - i) (drop (i * recordSize) t))
+
+-- the test of the part that is lent for record i
+lent-test : (t k : List ℕ) (i : ℕ) → i < length t / recordSize → classed k (nth t i) ≡ oneRecord (classed k) (take (i * recordSize + recordSize - i * recordSize) (drop (i * recordSize) t))
+lent-test t k i h = ap (classed k) (sym (part-is t i)) ∙ sym (one-record (classed k) _ (length-part t i h))
 
 -- by the test of record i
 by-test : (t k : List ℕ) (i : ℕ) (b : Bool) → i < length t / recordSize → classed k (nth t i) ≡ b → from t k i ≡ b && from t k (i + 1)
@@ -36,14 +42,14 @@ unfolding records
 returns c =
     let a = c .before .before .before .before .before .before .before .args in
     let l = c .before .before .before .before .loop in
-    let no = ap (classed (a .catalogue .now)) (sym (part-is (a .t .now) (l .i))) ∙ sym (c .before .is-classed .ensures) ∙ not-true _ (c .if1 .taken) in
+    let no = lent-test (a .t .now) (a .catalogue .now) (l .i) (c .before .before .before .loop-test .taken) ∙ sym (c .before .is-classed .ensures) ∙ not-true _ (c .if1 .taken) in
     sym (l .inv .1 ∙ by-test (a .t .now) (a .catalogue .now) (l .i) false (c .before .before .before .loop-test .taken) no)
 
 loop-again : tie.Need-loop-again Inv-loop μ-loop
 loop-again c =
     let a = c .before .before .before .before .before .before .before .args in
     let l = c .before .before .before .before .loop in
-    let yes = ap (classed (a .catalogue .now)) (sym (part-is (a .t .now) (l .i))) ∙ sym (c .before .is-classed .ensures) ∙ not-false _ (c .if1 .left) in
+    let yes = lent-test (a .t .now) (a .catalogue .now) (l .i) (c .before .before .before .loop-test .taken) ∙ sym (c .before .is-classed .ensures) ∙ not-false _ (c .if1 .left) in
     (omega arith, l .inv .1 ∙ by-test (a .t .now) (a .catalogue .now) (l .i) true (c .before .before .before .loop-test .taken) yes)
 
 returns-2 : tie.Need-returns-2 Inv-loop μ-loop

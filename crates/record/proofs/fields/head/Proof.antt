@@ -4,7 +4,7 @@ use mathlib.Core.Path.{sym, ap, ap₂, _∙_}
 use Rattle.location.specs.declared.Location.{Location}
 use Rattle.record.specs.declared.Service.{Service}
 use Rattle.record.specs.Locations.{headLocation}
-use Rattle.record.specs.Layout.{headIn, serviceIn, directionIn, byteAt}
+use Rattle.record.specs.Layout.{headIn, serviceIn, directionIn, eventIn, byteAt}
 use Rattle.record.proofs.AsRecord.{as-it-is, as-free}
 use borrow.Author.Needs.{needs}
 use Rattle.record.proofs.fields.head.Statement.{statement}
@@ -20,7 +20,7 @@ returns-2 c =
     let same = as-it-is r (c .before .before .before .before .before .before .if1 .left) in
     let location = c .before .before .before .head-location .ensures
     ∙ ap₂ (λ (s : Service) (l : Location). headLocation s l) (c .before .before .before .before .before .service .ensures ∙ ap serviceIn same) (c .before .before .before .before .location .ensures) in
-    ap₂ (λ (n l : ℕ). record { direction = directionIn r; extent = byteAt r 9; event = n; location = l }) (c .two .ensures) location
+    ap₂ (λ (n l : ℕ). record { direction = directionIn r; extent = byteAt r 9; event = n; location = l }) (c .event .ensures ∙ ap eventIn same) location
     ∙ sym (ap headIn same)
 
 pub head-spec : {M : Type 1} → statement M

@@ -24,7 +24,7 @@ use Rattle.matching.specs.Classes.{classesOf}
 use Rattle.matching.specs.Matching.{matching, keyMatches}
 use Rattle.matching.proofs.Matches.{key-matches}
 use Rattle.checks.specs.declared.Arrival.{Arrival}
-use Rattle.checks.specs.Events.{entryFor, kindFor, classFor, expiryFor}
+use Rattle.checks.specs.Events.{entryFor, kindFor, expiryFor}
 use Rattle.checks.proofs.Checked.{Checked, checked, life-inside, expiry-is, kinds}
 use Rattle.table.specs.declared.Answer.the-variants.{Freed, Stored, Refused}
 use Rattle.table.specs.Steps.{step, expiredIn, afterMatching, matchedIn, placeIn, noRoom, afterStoring}

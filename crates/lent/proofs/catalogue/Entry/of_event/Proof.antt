@@ -1,6 +1,5 @@
 -- Past the end of the catalogue nothing is known.
 use mathlib.Core.Path.{sym}
-use native.Mathlib.Omega.{arith}
 use lib.ListN.{List·getD-eq-default}
 use borrow.Author.Needs.{needs}
 use Rattle.lent.proofs.catalogue.Entry.of_event.Statement.{statement}
