@@ -39,11 +39,6 @@ unfoldable pub readingOf : Reading → read.Reading
 readingOf (gives its) = record { answer = readAnswer.Read; items = filled its }
 readingOf (refused n) = record { answer = readAnswer.Refused n; items = filled [] }
 
--- whether it is read, and not refused
-abbrev pub isRead : Reading → Bool
-isRead (gives its) = true
-isRead (refused n) = false
-
 -- what the number that reading into cells answers tells of the items in them then: 0, they are those read; else it is the refusal's
 unfoldable pub Told : Reading → ℕ → Items → Type 0
 Told (gives its) r s = (r ≡ 0) × (s ≡ filled its)
