@@ -54,7 +54,7 @@ fn of_items(items: Items, catalogue: &[u16]) -> Classes
     classes
 }
 
-// A number of items, or that of all places where it is above.
+// The number of items, or of places where it is above.
 fn at_most_all(count: usize) -> usize
     ensures { λ n. ⌜ n ≡ min count limit ⌝ }
 {
@@ -65,7 +65,7 @@ fn at_most_all(count: usize) -> usize
     }
 }
 
-// With the class of an item before those whose classes these are, if it is an additional event.
+// The classes with one item more at the front, if it is an additional event.
 fn with_item(classes: Classes, item: Item, catalogue: &[u16]) -> Classes
     ensures { λ s. ⌜ ((its : List declared.Item) → classes .0 ≡ setOf (eventClasses (now (catalogue .entry)) (additionalEvents its)) → s .0 ≡ setOf (eventClasses (now (catalogue .entry)) (additionalEvents (item ∷ its)))) ⌝ }
 {
@@ -76,7 +76,7 @@ fn with_item(classes: Classes, item: Item, catalogue: &[u16]) -> Classes
     }
 }
 
-// With the class of an event before those whose classes these are, if it has one.
+// The classes with one event more at the front, if it has a class.
 fn with_event(classes: Classes, event: u16, catalogue: &[u16]) -> Classes
     ensures { λ s. ⌜ ((es : List ℕ) → classes .0 ≡ setOf (eventClasses (now (catalogue .entry)) es) → s .0 ≡ setOf (eventClasses (now (catalogue .entry)) (event ∷ es))) ⌝ }
 {
@@ -88,7 +88,7 @@ fn with_event(classes: Classes, event: u16, catalogue: &[u16]) -> Classes
     }
 }
 
-// With one class more.
+// The classes with one more.
 fn with_class(classes: Classes, class: u8) -> Classes
     requires { ⌜ class < 64 ⌝ }
     ensures { λ s. ⌜ s .0 ≡ withClass (classes .0) class ⌝ }

@@ -35,8 +35,7 @@ pub fn free_gone(r: &mut [u8], catalogue: &[u16], minute: Utc, key: Key) -> Free
     }
 }
 
-// Whether the record is of the same service, location and direction and shares a class. The content of most records need not be read for
-// that.
+// Whether the record is of the same service, location and direction and shares a class. Most are not, and their content is not read.
 fn matches(r: &[u8], catalogue: &[u16], key: Key) -> bool
     ensures { λ b. ⌜ b ≡ oneRecord (keyMatches (now (catalogue .entry)) key) (now (r .entry)) ⌝ }
 {

@@ -24,8 +24,7 @@ pub fn all_classed(t: &[u8], catalogue: &[u16]) -> bool
     true
 }
 
-// Whether a record is free, or has a first event with an update class and content that reads as items. Bytes that are not one record's have
-// not.
+// Whether the bytes are one record's, and it is free, or has a first event with an update class and content that reads as items.
 fn is_classed(r: &[u8], catalogue: &[u16]) -> bool
     ensures { λ b. ⌜ b ≡ oneRecord (classed (now (catalogue .entry))) (now (r .entry)) ⌝ }
 {
