@@ -73,8 +73,8 @@ pub fn nothing(answer: Answer) -> Reading
     }
 }
 
-// The report of a record, free or not. Bytes that are not one record's, or have not one to five groups, are refused (10), then content that
-// does not read as items (7 or 8).
+// The report of a record. Bytes that are not one record's, and a record that has not one to five groups, as a free one has not, are refused
+// (10), then content that does not read as items (7 or 8).
 pub fn message_of(r: &[u8]) -> MessageReading
     ensures { λ x. ⌜ x ≡ outcomeOf (messageOf (now (r .entry))) ⌝ }
 {
