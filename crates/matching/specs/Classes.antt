@@ -28,9 +28,9 @@ messageClasses catalogue (refused n) = []
 unfoldable pub classesIn : (catalogue r : List ℕ) → List ℕ
 classesIn catalogue r = messageClasses catalogue (messageOf r)
 
--- a record that is free, or whose first event has a class and whose content reads as items
+-- a record that is free, or whose content reads as items and whose first event has a class
 unfoldable pub classed : (catalogue r : List ℕ) → Bool
-classed catalogue r = isFree r || hasClass (entryAt catalogue (eventIn r)) && given (messageOf r)
+classed catalogue r = isFree r || given (messageOf r) && hasClass (entryAt catalogue (eventIn r))
 
 -- every record of a table
 abbrev pub allClassed : (catalogue t : List ℕ) → Bool

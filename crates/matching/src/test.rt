@@ -7,7 +7,7 @@ use record::Record;
 use record::fields::event;
 use record_report::read::reads;
 
-// Whether every record is free, or has a first event with an update class and content that reads as items.
+// Whether every record is free, or has content that reads as items and a first event with an update class.
 pub fn all_classed(t: &[u8], catalogue: &[u16]) -> bool
     ensures { λ b. ⌜ b ≡ allClassed (now (catalogue .entry)) (now (t .entry)) ⌝ }
 {
@@ -24,7 +24,7 @@ pub fn all_classed(t: &[u8], catalogue: &[u16]) -> bool
     true
 }
 
-// Whether the bytes are one record's, and it is free, or has a first event with an update class and content that reads as items.
+// Whether the bytes are one record's, and it is free, or has content that reads as items and a first event with an update class.
 fn is_classed(r: &[u8], catalogue: &[u16]) -> bool
     ensures { λ b. ⌜ b ≡ oneRecord (classed (now (catalogue .entry))) (now (r .entry)) ⌝ }
 {
