@@ -9,9 +9,12 @@ use Rattle.record_report.specs.Answers as kept
 use Rattle.table.specs.declared.Answer.{Answer}
 use Rattle.checks.specs.declared.Arrival.{Arrival}
 use Rattle.table.specs.Answers as table·
+use Rattle.renewal.specs.declared.Answer.{Answer as Renewed}
+use Rattle.renewal.specs.Answers as renewal·
 use Rattle.c_values.specs.declared.reports.PlainReport.{PlainReport}
 use Rattle.c_values.specs.Reports.{reportFrom, plainOf}
 use Rattle.c_answers.specs.declared.tables.TableAnswer.{TableAnswer}
+use Rattle.c_answers.specs.declared.tables.Renewal.{Renewal}
 use Rattle.c_answers.specs.declared.tables.RecordReading.{RecordReading}
 use Rattle.c_answers.specs.declared.tables.ExpiryAnswer.{ExpiryAnswer}
 
@@ -23,6 +26,10 @@ arrivalOf p service minute = record { report = reportFrom p; service = service; 
 abbrev pub tableAnswer : Answer → TableAnswer
 tableAnswer a =
     record { expired = table·.expiredOf a; matched = table·.matchedOf a; place = table·.placeOf a; stored = table·.storedOf a; refusal = table·.numberOf a }
+
+-- what a renewal says
+abbrev pub renewalTold : Renewed → Renewal
+renewalTold a = record { used = renewal·.usedOf a; refusal = renewal·.numberOf a }
 
 -- a report with its service and expiry, and whether the record is in use
 unfoldable pub readingWith : PlainReport → Service → ℕ → Use → RecordReading

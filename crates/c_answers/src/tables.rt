@@ -1,6 +1,6 @@
 // The message table.
 ghost use mathlib.Core.Path.{_≡_};
-ghost use Rattle.c_answers.specs.Tables.{tableAnswer, recordReading, expiryTold};
+ghost use Rattle.c_answers.specs.Tables.{tableAnswer, renewalTold, recordReading, expiryTold};
 use c_values::reports::PlainReport;
 use clock::Expiry;
 use record::Service;
@@ -49,6 +49,27 @@ impl TableAnswer {
                 r.refusal = n;
                 r
             }
+        }
+    }
+}
+
+// How many records are used.
+#[repr(C)]
+pub struct Renewal {
+    pub used: usize,
+    pub refusal: u8,
+}
+
+impl Renewal {
+    pub fn of(answer: renewal::Answer) -> Self
+        ensures { λ r. ⌜ r ≡ renewalTold answer ⌝ }
+    {
+        match answer {
+            renewal::Answer::Renewed(used) => Renewal { used, refusal: 0 },
+            renewal::Answer::Refused(number) => Renewal {
+                used: 0,
+                refusal: number,
+            },
         }
     }
 }

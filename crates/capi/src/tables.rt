@@ -3,16 +3,19 @@ ghost use mathlib.Core.Path.{_≡_};
 ghost use Rattle.table.specs.Take.{takeStep, takeTable};
 ghost use Rattle.table.specs.Read.{recordAt};
 ghost use Rattle.table.specs.Expire.{expireStep, expireTable};
+ghost use Rattle.renewal.specs.Renewal.{renewAnswer, renewTable};
 ghost use Rattle.clock.specs.Expiry.{expiryAnswer};
 ghost use Rattle.record_report.specs.Reads.{readingOf};
-ghost use Rattle.c_answers.specs.Tables.{arrivalOf, tableAnswer, recordReading, expiryTold};
+ghost use Rattle.c_answers.specs.Tables.{arrivalOf, tableAnswer, renewalTold, recordReading, expiryTold};
 use c_answers::tables::ExpiryAnswer;
 use c_answers::tables::RecordReading;
+use c_answers::tables::Renewal;
 use c_answers::tables::TableAnswer;
 use c_values::reports::PlainReport;
 use checks::Arrival;
 use clock::Utc;
 use record::Service;
+use renewal::renew;
 use table::Table;
 
 // Takes a report of a service at a minute. The location of an INTER-ROAD report is the real one, in the table of its FLT code.
@@ -55,6 +58,15 @@ pub extern "C" fn alertc_table_expire(table: &mut [u8], clock: &mut u32, minute:
     let answer = step.answer;
     *clock = last.0;
     TableAnswer::of(answer)
+}
+
+// Works out the update classes of every used record anew from a changed catalogue.
+#[no_mangle]
+pub extern "C" fn alertc_table_renew(table: &mut [u8], catalogue: &[u16]) -> Renewal
+    ensures { λ r. ⌜ r ≡ renewalTold (renewAnswer (now (table .entry)) (now (catalogue .entry))) ⌝ }
+    ensures { λ _. ⌜ now (table .exit) ≡ renewTable (now (table .entry)) (now (catalogue .entry)) ⌝ }
+{
+    Renewal::of(renew(table, catalogue))
 }
 
 // Reads the record at a place. One of a foreign location gives an FLT code and the real location.

@@ -21,7 +21,6 @@ use Rattle.record_report.proofs.Reports.{report-ranges}
 use Rattle.lent.specs.Catalogue.{typeOf}
 use Rattle.lent.specs.Lent.{lentFit}
 use Rattle.lent.proofs.Lents.{lent-events, lent-lives, life-short}
-use Rattle.matching.specs.Classes.{allClassed}
 use Rattle.checks.specs.declared.Arrival.{Arrival}
 use Rattle.checks.specs.Events.{entryFor, kindFor, lifeFor, expiryFor}
 use Rattle.checks.specs.Checks.{minuteUnfit, askedFit, laterRefusal, checkRefusal}
@@ -50,21 +49,25 @@ later-passed last minute code kind h = by-tests (minuteUnfit last minute) (isFlt
 module _ (t c l : List ℕ) (last : ℕ) (a : Arrival) (lto : ℤ) where
   pub record Checked : Type 0 where
     pub lent : lentFit t c l ≡ true
-    pub classed : allClassed c t ≡ true
     pub asked : askedFit (a .report) (a .service) lto ≡ true
     pub minute-fit : minuteUnfit last (a .minute .0) ≡ false
     pub known : eqb (kindFor c (a .report)) 0 ≡ false
 
   pub checked : checkRefusal t c l last a lto ≡ 0 → Checked
-  checked e = by-tests (lentFit t c l) refl (allClassed c t) refl (askedFit (a .report) (a .service) lto) refl
+  checked e = by-lent (lentFit t c l) refl
     where
-      by-tests : (x : Bool) → lentFit t c l ≡ x → (y : Bool) → allClassed c t ≡ y → (z : Bool) → askedFit (a .report) (a .service) lto ≡ z → Checked
-      by-tests false f y g z h = absurd (let n : 10 ≡ 0 = sym (checks-in-order t c l last a lto false y z f g h) ∙ e in omega arith)
-      by-tests true f false g z h = absurd (let n : 10 ≡ 0 = sym (checks-in-order t c l last a lto true false z f g h) ∙ e in omega arith)
-      by-tests true f true g false h = absurd (let n : 9 ≡ 0 = sym (checks-in-order t c l last a lto true true false f g h) ∙ e in omega arith)
-      by-tests true f true g true h =
-          let passed = later-passed last (a .minute .0) (locationOf (a .service) (a .report) .code) (kindFor c (a .report)) (sym (checks-in-order t c l last a lto true true true f g h) ∙ e) in
-          record { lent = f; classed = g; asked = h; minute-fit = passed .0; known = passed .1 }
+      later : lentFit t c l ≡ true → askedFit (a .report) (a .service) lto ≡ true → laterRefusal last (a .minute .0) (locationOf (a .service) (a .report) .code) (kindFor c (a .report)) ≡ 0
+      later f g = sym (checks-in-order t c l last a lto true true f g) ∙ e
+
+      by-asked : (b : Bool) → lentFit t c l ≡ true → askedFit (a .report) (a .service) lto ≡ b → Checked
+      by-asked true f g =
+          let passed = later-passed last (a .minute .0) (locationOf (a .service) (a .report) .code) (kindFor c (a .report)) (later f g) in
+          record { lent = f; asked = g; minute-fit = passed .0; known = passed .1 }
+      by-asked false f g = absurd (let z : 9 ≡ 0 = sym (checks-in-order t c l last a lto true false f g) ∙ e in omega arith)
+
+      by-lent : (b : Bool) → lentFit t c l ≡ b → Checked
+      by-lent true f = by-asked (askedFit (a .report) (a .service) lto) f refl
+      by-lent false f = absurd (let z : 10 ≡ 0 = sym (checks-in-order t c l last a lto false (askedFit (a .report) (a .service) lto) f refl) ∙ e in omega arith)
 
   -- what they say
   pub asked-report : askedFit (a .report) (a .service) lto ≡ true → reportFits (a .report) ≡ true

@@ -1,4 +1,4 @@
--- What a call on the table refuses, but for want of room (documents 01, "The message table", and 02, R-1 and R-4).
+-- What a call on the table refuses, but for want of room (documents 01, "The message table", and 02, R-1).
 use Prim.Native.Nat.{ℕ}
 use mathlib.Core.Bool.{Bool, cond, _&&_, _||_}
 use mathlib.Core.List.{List}
@@ -13,7 +13,6 @@ use Rattle.record.specs.declared.Service.{Service}
 use Rattle.record.specs.Services.{serviceFits}
 use Rattle.record.specs.Locations.{locationOf}
 use Rattle.lent.specs.Lent.{lentFit}
-use Rattle.matching.specs.Classes.{allClassed}
 use Rattle.checks.specs.declared.Arrival.{Arrival}
 use Rattle.checks.specs.Events.{kindFor}
 
@@ -34,6 +33,5 @@ laterRefusal last minute code kind = cond (minuteUnfit last minute) 13 (cond (is
 unfoldable pub checkRefusal : (t catalogue lives : List ℕ) → ℕ → Arrival → ℤ → ℕ
 checkRefusal t catalogue lives last a lto =
     must (lentFit t catalogue lives) 10
-    (must (allClassed catalogue t) 10
     (must (askedFit (a .report) (a .service) lto) 9
-    (laterRefusal last (a .minute .0) (locationOf (a .service) (a .report) .code) (kindFor catalogue (a .report)))))
+    (laterRefusal last (a .minute .0) (locationOf (a .service) (a .report) .code) (kindFor catalogue (a .report))))

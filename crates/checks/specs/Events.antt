@@ -5,7 +5,7 @@ use lib.IntN.{ℤ}
 use lib.ListN.{getD}
 use Rattle.report.specs.declared.Report.{Report}
 use Rattle.clock.specs.Time.{expiryOf}
-use Rattle.lent.specs.Catalogue.{entryAt, classOf, kindOf, typeOf}
+use Rattle.lent.specs.Catalogue.{entryAt, kindOf, typeOf}
 use Rattle.checks.specs.declared.Arrival.{Arrival}
 
 -- the entry of its first event
@@ -15,10 +15,6 @@ entryFor catalogue r = entryAt catalogue (r .head .event)
 -- its kind
 abbrev pub kindFor : List ℕ → Report → ℕ
 kindFor catalogue r = kindOf (entryFor catalogue r)
-
--- its update class, which a record keeps
-abbrev pub classFor : List ℕ → Report → ℕ
-classFor catalogue r = classOf (entryFor catalogue r)
 
 -- its life: the one at 8 * type + duration
 abbrev pub lifeFor : (catalogue lives : List ℕ) → Report → ℕ

@@ -6,7 +6,6 @@ use clock::offset_fits;
 use lent::catalogue::Entry;
 use lent::lent_fit;
 use location::Location;
-use matching::test::all_classed;
 use record::Service;
 use report::Report;
 
@@ -22,9 +21,6 @@ pub fn check(t: &[u8], catalogue: &[u16], lives: &[u16], last: Utc, arrival: Arr
     ensures { λ n. ⌜ n ≡ checkRefusal (now (t .entry)) (now (catalogue .entry)) (now (lives .entry)) (last .0) arrival lto ⌝ }
 {
     if !lent_fit(t, catalogue, lives) {
-        return 10;
-    }
-    if !all_classed(t, catalogue) {
         return 10;
     }
     let report = arrival.report;

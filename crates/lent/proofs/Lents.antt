@@ -4,17 +4,17 @@ use native.Mathlib.Omega.{arith}
 use mathlib.Core.Path.{_≡_, refl, sym, ap, ap₂, _∙_}
 use mathlib.Core.Bool.{Bool, true, false, not, _&&_, _||_}
 use mathlib.Core.List.{List, [], _∷_}
-use lib.ListN.{length, take, drop, getD}
+use lib.ListN.{length, take, drop, getD, List·getD-eq-default}
 use lib.Seq.{drop-drop}
 use lib.Dec.{leb, ltb, eqb}
-use borrow.Author.Tests.{eqb-true, eqb-false, ne-eqb, leb-true}
+use borrow.Author.Tests.{eqb-true, eqb-false, ne-eqb, leb-true, ltb-true, ltb-false}
 use Rattle.bits.proofs.Choice.{and-left, and-right}
 use Rattle.clock.specs.Time.{longestLife}
 use Rattle.record.specs.Layout.{recordSize, freeRecord}
 use Rattle.record.specs.WellFormed.{wellFormed}
 use Rattle.lent.specs.Records.{chunks, records, allOf}
 use Rattle.lent.specs.Table.{sized, tableFits}
-use Rattle.lent.specs.Catalogue.{classOf, kindOf, entryFits, catalogueFits}
+use Rattle.lent.specs.Catalogue.{classOf, kindOf, hasClass, entryFits, catalogueFits}
 use Rattle.lent.specs.Lives.{livesFit}
 use Rattle.lent.specs.Lent.{lentFit}
 use Rattle.lent.proofs.Passes.{nth}
@@ -51,19 +51,34 @@ entry-at p [] i a h = absurd (omega arith)
 entry-at p (x ∷ l) zero a h = and-left (p x) (allOf p l) a
 entry-at p (x ∷ l) (suc i) a h = entry-at p l i (and-right (p x) (allOf p l) a) (omega arith)
 
--- an ordinary event has an update class
-pub ordinary-class : (x : ℕ) → entryFits x ≡ true → kindOf x ≡ 1 → 1 ≤ classOf x
+-- an event that has an update class has one other than 0
+pub class-some : (x : ℕ) → entryFits x ≡ true → hasClass x ≡ true → 1 ≤ classOf x
 unfolding entryFits
-ordinary-class x h e = by-test (eqb (classOf x) 0) refl (and-right (ltb x 512) _ h)
+class-some x h has = by-class (eqb (classOf x) 0) refl (and-right (ltb x 512) _ h)
   where
-    by-test : (b : Bool) → eqb (classOf x) 0 ≡ b → b && (eqb (kindOf x) 0 || eqb (kindOf x) 3) || not b && (eqb (kindOf x) 1 || eqb (kindOf x) 2) ≡ true → 1 ≤ classOf x
-    by-test true z k =
-        let no : eqb (kindOf x) 0 ≡ false = ne-eqb (kindOf x) 0 (λ y. omega arith) in
-        let nor : eqb (kindOf x) 3 ≡ false = ne-eqb (kindOf x) 3 (λ y. omega arith) in
-        let f : false ≡ true = sym (ap₂ (λ (u v : Bool). (u || v) || false) no nor) ∙ k in
-        let q : _≡_ {A = ℕ} 0 1 = cc in
+    neither : (kindOf x ≡ 1 → ⊥) → (kindOf x ≡ 2 → ⊥) → 1 ≤ classOf x
+    neither one two =
+        let f : false ≡ true = sym (ap₂ (λ (u v : Bool). u || v) (ne-eqb (kindOf x) 1 one) (ne-eqb (kindOf x) 2 two)) ∙ has in
+        let z : _≡_ {A = ℕ} 0 1 = cc in
         absurd (omega arith)
-    by-test false z k = let some = eqb-false (classOf x) 0 z in omega arith
+
+    by-kind : (u v : Bool) → eqb (kindOf x) 0 ≡ u → eqb (kindOf x) 3 ≡ v → (u || v) || false ≡ true → 1 ≤ classOf x
+    by-kind true v e f k = let z = eqb-true (kindOf x) 0 e in neither (λ y. omega arith) (λ y. omega arith)
+    by-kind false true e f k = let z = eqb-true (kindOf x) 3 f in neither (λ y. omega arith) (λ y. omega arith)
+    by-kind false false e f k = let z : _≡_ {A = ℕ} 0 1 = cc in absurd (omega arith)
+
+    by-class : (b : Bool) → eqb (classOf x) 0 ≡ b → b && (eqb (kindOf x) 0 || eqb (kindOf x) 3) || not b && hasClass x ≡ true → 1 ≤ classOf x
+    by-class true e k = by-kind (eqb (kindOf x) 0) (eqb (kindOf x) 3) refl refl k
+    by-class false e k = let some = eqb-false (classOf x) 0 e in omega arith
+
+-- an entry of a catalogue that fits; past its end is that of an unknown event
+pub catalogue-entry : (c : List ℕ) (i : ℕ) → catalogueFits c ≡ true → entryFits (getD c i 0) ≡ true
+unfolding catalogueFits entryFits
+catalogue-entry c i h = by-end (ltb i (length c)) refl
+  where
+    by-end : (b : Bool) → ltb i (length c) ≡ b → entryFits (getD c i 0) ≡ true
+    by-end true e = entry-at entryFits c i (and-right (eqb (length c) 2048) (allOf entryFits c) h) (ltb-true i (length c) e)
+    by-end false e = ap entryFits (List·getD-eq-default c 0 {n = i} (ltb-false i (length c) e))
 
 module _ (t c l : List ℕ) (h : lentFit t c l ≡ true) where
   pub lent-table : tableFits t ≡ true
@@ -77,13 +92,12 @@ module _ (t c l : List ℕ) (h : lentFit t c l ≡ true) where
   pub lent-whole : length t % recordSize ≡ 0
   lent-whole = table-whole t lent-table
 
+  pub lent-catalogue : catalogueFits c ≡ true
+  lent-catalogue = and-left (catalogueFits c) (livesFit l) lent-rest
+
   pub lent-events : length c ≡ 2048
   unfolding catalogueFits
-  lent-events = eqb-true (length c) 2048 (and-left (eqb (length c) 2048) (allOf entryFits c) (and-left (catalogueFits c) (livesFit l) lent-rest))
-
-  pub lent-entry : (i : ℕ) → i < length c → entryFits (getD c i 0) ≡ true
-  unfolding catalogueFits
-  lent-entry i k = entry-at entryFits c i (and-right (eqb (length c) 2048) (allOf entryFits c) (and-left (catalogueFits c) (livesFit l) lent-rest)) k
+  lent-events = eqb-true (length c) 2048 (and-left (eqb (length c) 2048) (allOf entryFits c) lent-catalogue)
 
   lent-lives-fit : eqb (length l) 16 && allOf (λ x. leb x longestLife) l ≡ true
   unfolding livesFit

@@ -9,7 +9,8 @@ use lib.Arith.{bin-ind}
 use lib.Pow.{pow-pos, pow-lt}
 use lib.Bits.{bitAnd, bitOr, and-step, or-step, and-zero-l, and-zero-r, and-comm, and-self, and-le-l, and-le-r, and-shifted, or-add-and}
 use borrow.Author.Tests.{eqb-true, eqb-false, eq-eqb, ne-eqb, ltb-true, ltb-false}
-use Rattle.record.specs.Classes.{anyOf, share, setOf, meet}
+use Rattle.bits.proofs.Choice.{and-left}
+use Rattle.record.specs.Classes.{anyOf, share, setOf, meet, setFits}
 
 -- `and` over `or`, a bit at a time
 or-half : (a b : ℕ) → bitOr a b / 2 ≡ bitOr (a / 2) (b / 2)
@@ -87,3 +88,7 @@ pub sets-share : (xs ys : List ℕ) → meet (setOf xs) (setOf ys) ≡ share xs 
 unfolding setOf share anyOf
 sets-share [] ys = ap (λ (x : ℕ). not (eqb x 0)) (and-zero-l (setOf ys))
 sets-share (x ∷ xs) ys = more-meets (setOf xs) x (setOf ys) ∙ ap₂ (λ (a b : Bool). a || b) (one-meets x ys) (sets-share xs ys)
+
+-- a set that a record may have shares its classes with itself
+pub set-shared : (set : ℕ) → setFits set ≡ true → meet set set ≡ true
+set-shared set h = ap (λ (n : ℕ). not (eqb n 0)) (and-self set) ∙ and-left (not (eqb set 0)) (eqb (set % 2) 0) h

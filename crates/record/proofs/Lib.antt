@@ -3,6 +3,7 @@ pub mod ReportLocations
 pub mod Ranges
 pub mod Zeros
 pub mod Tested
+pub mod StoredSets
 pub mod Steps
 pub mod ClassSets
 pub mod FreeFits

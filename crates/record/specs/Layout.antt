@@ -1,7 +1,7 @@
--- The bytes of a record (documents 01, "The message table", and 02, R-1). Numbers are little-endian.
-use Prim.Native.Nat.{ℕ, _+_, _*_}
+-- The bytes of a record (documents 01, "The message table", and 02, R-1 and R-5). Numbers are little-endian.
+use Prim.Native.Nat.{ℕ, _+_, _*_, _/_, _%_}
 use mathlib.Core.Bool.{Bool, cond}
-use mathlib.Core.List.{List}
+use mathlib.Core.List.{List, [], _∷_, _++_}
 use lib.ListN.{length, take, drop, getD, replicate}
 use lib.Dec.{eqb}
 use Rattle.word.specs.declared.Head.{Head}
@@ -12,7 +12,7 @@ use Rattle.record.specs.Locations.{headLocation, realLocation}
 
 -- the bytes of a record
 abbrev pub recordSize : ℕ
-recordSize = 34
+recordSize = 42
 
 -- bytes that are one record's
 abbrev pub isRecord : List ℕ → Bool
@@ -38,6 +38,13 @@ fourAt r j = byteAt r j + 0x100 * byteAt r (j + 1) + 0x1_0000 * byteAt r (j + 2)
 
 abbrev pub eightAt : List ℕ → ℕ → ℕ
 eightAt r j = fourAt r j + 0x1_0000_0000 * fourAt r (j + 4)
+
+-- and back: the four and eight bytes of a number
+abbrev pub fourBytes : ℕ → List ℕ
+fourBytes n = n % 256 ∷ n / 0x100 % 256 ∷ n / 0x1_0000 % 256 ∷ n / 0x100_0000 ∷ []
+
+abbrev pub eightBytes : ℕ → List ℕ
+eightBytes n = fourBytes (n % 0x1_0000_0000) ++ fourBytes (n / 0x1_0000_0000)
 
 -- of a well-formed record, whether it is free
 abbrev pub isFree : List ℕ → Bool
@@ -82,6 +89,13 @@ contentAt = 16
 abbrev pub contentIn : List ℕ → List ℕ
 contentIn r = take contentBytes (drop contentAt r)
 
--- the update class of its first event
-abbrev pub classIn : List ℕ → ℕ
-classIn r = byteAt r 30
+-- the update classes of its events, a set
+abbrev pub setAt : ℕ
+setAt = 34
+
+abbrev pub setIn : List ℕ → ℕ
+setIn r = eightAt r setAt
+
+-- the record with another set; bytes that are not one record's as they are
+unfoldable pub withSet : ℕ → List ℕ → List ℕ
+withSet set r = cond (isRecord r) (take setAt r ++ eightBytes set) r

@@ -1,8 +1,8 @@
 pub mod Services
 pub mod Locations
 pub mod Layout
+pub mod Classes
 pub mod WellFormed
 pub mod Zeros
-pub mod Classes
-pub mod Keys
+pub mod Matching
 pub mod Gone

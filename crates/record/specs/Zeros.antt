@@ -1,4 +1,4 @@
--- The bits that are zero in a well-formed record (document 01, "The message table"): those above the bits of each byte, and the content bits
+-- The bits that are zero in a well-formed record (documents 01, "The message table", and 02, R-5): those above the bits of each byte, and the content bits
 -- after those of the groups.
 use Prim.Native.Nat.{ℕ, zero, suc, _+_, _-_, _*_, _^_}
 use mathlib.Core.Bool.{Bool, cond, not, _&&_}

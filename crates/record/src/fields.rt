@@ -2,9 +2,11 @@
 ghost use mathlib.Core.Path.{_≡_};
 ghost use Prim.Native.Nat.{_+_, _≤_};
 ghost use lib.ListN.{length};
-ghost use Rattle.record.specs.Layout.{recordSize, asRecord, twoAt, fourAt, expiryIn, locationIn, serviceIn, eventIn, headIn, realIn};
+ghost use lib.Seq.{sets};
+ghost use Rattle.record.specs.Layout.{recordSize, asRecord, twoAt, fourAt, eightAt, fourBytes, expiryIn, locationIn, serviceIn, eventIn, headIn, realIn, setIn};
 use crate::Record;
 use crate::Service;
+use crate::classes::Classes;
 use clock::Utc;
 use location::Location;
 use word::Head;
@@ -26,6 +28,25 @@ pub(crate) fn four(r: &[u8], at: usize) -> u32
         + 0x100 * (r[at + 1] as u32)
         + 0x1_0000 * (r[at + 2] as u32)
         + 0x100_0000 * (r[at + 3] as u32)
+}
+
+// The number that eight bytes are, the first one lowest.
+pub(crate) fn eight(r: &[u8], at: usize) -> u64
+    requires { ⌜ at + 8 ≤ length (now r) ⌝ }
+    ensures { λ n. ⌜ n ≡ eightAt (now (r .entry)) at ⌝ }
+{
+    four(r, at) as u64 + 0x1_0000_0000 * four(r, at + 4) as u64
+}
+
+// Stores a number in four bytes, the first one lowest.
+pub(crate) fn put_four(r: &mut [u8], at: usize, n: u32)
+    requires { ⌜ at + 4 ≤ length (now r) ⌝ }
+    ensures { λ _. ⌜ now (r .exit) ≡ sets (now (r .entry)) at (fourBytes n) ⌝ }
+{
+    r[at] = (n % 0x100) as u8;
+    r[at + 1] = (n / 0x100 % 0x100) as u8;
+    r[at + 2] = (n / 0x1_0000 % 0x100) as u8;
+    r[at + 3] = (n / 0x100_0000) as u8;
 }
 
 // The minute at which the record ends.
@@ -106,4 +127,14 @@ pub fn real_location(r: &[u8]) -> u16
     }
     let service = service(r);
     service.real_location(location(r))
+}
+
+// The update classes of its events.
+pub fn classes(r: &[u8]) -> Classes
+    ensures { λ s. ⌜ s .0 ≡ setIn (asRecord (now (r .entry))) ⌝ }
+{
+    if r.len() != Record::SIZE {
+        return Classes::new();
+    }
+    Classes(eight(r, Record::CLASSES))
 }

@@ -5,8 +5,8 @@ ghost use Rattle.record.specs.Services.{serviceFits};
 pub mod classes;
 pub mod fields;
 pub mod freeing;
-pub mod keys;
 pub mod locations;
+mod matching;
 pub mod test;
 
 use crate::classes::Classes;
@@ -55,7 +55,7 @@ pub struct Record;
 
 impl Record {
     // The bytes of a record.
-    pub const SIZE: usize = 34;
+    pub const SIZE: usize = 42;
 
     // Where each part begins: the mark of a used record, then as named.
     pub const MARK: usize = 0;
@@ -82,7 +82,8 @@ impl Record {
 
     pub const CONTENT: usize = 16;
 
-    pub const CLASS: usize = 30;
+    // A byte that is 0.
+    pub const RESERVED: usize = 30;
 
     pub const COUNTRY: usize = 31;
 
@@ -90,8 +91,8 @@ impl Record {
 
     pub const LOCATION_LTN: usize = 33;
 
-    // The most groups, and the largest update class; the least of both is 1.
-    pub const MOST_GROUPS: u8 = 5;
+    pub const CLASSES: usize = 34;
 
-    pub const LARGEST_CLASS: u8 = 63;
+    // The most groups; the least is 1.
+    pub const MOST_GROUPS: u8 = 5;
 }

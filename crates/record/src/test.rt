@@ -1,14 +1,14 @@
 // The test of a record's bytes.
 ghost use mathlib.Core.Path.{_≡_};
 ghost use mathlib.Core.Bool.{_&&_};
-ghost use Prim.Native.Nat.{_+_, _≤_};
 ghost use lib.ListN.{length};
-ghost use Rattle.record.specs.Layout.{recordSize, isRecord, eightAt};
+ghost use Rattle.record.specs.Layout.{recordSize, isRecord};
 ghost use Rattle.record.specs.WellFormed.{wellFormed};
 ghost use Rattle.record.specs.Zeros.{zeroBits, rowOf, eightFrom, bytesZero};
 use crate::Record;
+use crate::fields::classes;
+use crate::fields::eight;
 use crate::fields::expiry;
-use crate::fields::four;
 
 impl Record {
     // The bytes that are tested at a time.
@@ -25,12 +25,12 @@ const LAST: usize = Record::SIZE - Record::STEP;
 pub fn zero_bits() -> [u8; Record::ROWS * Record::SIZE]
     ensures { λ zs. ⌜ zs ≡ zeroBits ⌝ }
 {
-    *b"\xFF\xFF\xFF\xFF\xFF\xFF\xFF\xFF\xFF\xFF\xFF\xFF\xFF\xFF\xFF\xFF\xFF\xFF\xFF\xFF\xFF\xFF\xFF\xFF\xFF\xFF\xFF\xFF\xFF\xFF\xFF\xFF\xFF\xFF\
-       \xFE\xF8\xC0\xC0\0\0\0\xF8\xFE\xF8\xFE\xF8\0\0\0\0\xFF\xFF\xFF\xFF\xFF\xFF\xFF\xFF\xFF\xFF\xFF\xFF\xFF\xFF\xC0\xF0\xF0\xC0\
-       \xFE\xF8\xC0\xC0\0\0\0\xF8\xFE\xF8\xFE\xF8\0\0\0\0\0\0\0\x0F\xFF\xFF\xFF\xFF\xFF\xFF\xFF\xFF\xFF\xFF\xC0\xF0\xF0\xC0\
-       \xFE\xF8\xC0\xC0\0\0\0\xF8\xFE\xF8\xFE\xF8\0\0\0\0\0\0\0\0\0\0\0\xFF\xFF\xFF\xFF\xFF\xFF\xFF\xC0\xF0\xF0\xC0\
-       \xFE\xF8\xC0\xC0\0\0\0\xF8\xFE\xF8\xFE\xF8\0\0\0\0\0\0\0\0\0\0\0\0\0\0\x0F\xFF\xFF\xFF\xC0\xF0\xF0\xC0\
-       \xFE\xF8\xC0\xC0\0\0\0\xF8\xFE\xF8\xFE\xF8\0\0\0\0\0\0\0\0\0\0\0\0\0\0\0\0\0\0\xC0\xF0\xF0\xC0"
+    *b"\xFF\xFF\xFF\xFF\xFF\xFF\xFF\xFF\xFF\xFF\xFF\xFF\xFF\xFF\xFF\xFF\xFF\xFF\xFF\xFF\xFF\xFF\xFF\xFF\xFF\xFF\xFF\xFF\xFF\xFF\xFF\xFF\xFF\xFF\xFF\xFF\xFF\xFF\xFF\xFF\xFF\xFF\
+       \xFE\xF8\xC0\xC0\0\0\0\xF8\xFE\xF8\xFE\xF8\0\0\0\0\xFF\xFF\xFF\xFF\xFF\xFF\xFF\xFF\xFF\xFF\xFF\xFF\xFF\xFF\xFF\xF0\xF0\xC0\0\0\0\0\0\0\0\0\
+       \xFE\xF8\xC0\xC0\0\0\0\xF8\xFE\xF8\xFE\xF8\0\0\0\0\0\0\0\x0F\xFF\xFF\xFF\xFF\xFF\xFF\xFF\xFF\xFF\xFF\xFF\xF0\xF0\xC0\0\0\0\0\0\0\0\0\
+       \xFE\xF8\xC0\xC0\0\0\0\xF8\xFE\xF8\xFE\xF8\0\0\0\0\0\0\0\0\0\0\0\xFF\xFF\xFF\xFF\xFF\xFF\xFF\xFF\xF0\xF0\xC0\0\0\0\0\0\0\0\0\
+       \xFE\xF8\xC0\xC0\0\0\0\xF8\xFE\xF8\xFE\xF8\0\0\0\0\0\0\0\0\0\0\0\0\0\0\x0F\xFF\xFF\xFF\xFF\xF0\xF0\xC0\0\0\0\0\0\0\0\0\
+       \xFE\xF8\xC0\xC0\0\0\0\xF8\xFE\xF8\xFE\xF8\0\0\0\0\0\0\0\0\0\0\0\0\0\0\0\0\0\0\xFF\xF0\xF0\xC0\0\0\0\0\0\0\0\0"
 }
 
 // Whether the bytes are one well-formed record.
@@ -70,27 +70,19 @@ fn eight_from(j: usize) -> usize
     if j <= LAST { j } else { LAST }
 }
 
-// The row of a record: its groups; 0 if it is free, and if its groups are not one to five or it has no expiry or no class.
+// The row of a record: its groups; 0 if it is free, and if its groups are not one to five or it has no expiry or no set of classes.
 fn row_of(r: &[u8]) -> usize
     requires { ⌜ length (now r) ≡ recordSize ⌝ }
     ensures { λ n. ⌜ n ≡ rowOf (now (r .entry)) ⌝ }
 {
     let groups = r[Record::GROUPS];
     let end = expiry(r);
+    let classes = classes(r);
     if (r[Record::MARK] != 0)
-        & (((1 <= groups) & (groups <= Record::MOST_GROUPS))
-            & ((end.0 != 0) & (r[Record::CLASS] != 0)))
+        & (((1 <= groups) & (groups <= Record::MOST_GROUPS)) & ((end.0 != 0) & classes.fits()))
     {
         groups as usize
     } else {
         0
     }
-}
-
-// The number that eight bytes are, the first one lowest.
-fn eight(r: &[u8], at: usize) -> u64
-    requires { ⌜ at + 8 ≤ length (now r) ⌝ }
-    ensures { λ n. ⌜ n ≡ eightAt (now (r .entry)) at ⌝ }
-{
-    four(r, at) as u64 + 0x1_0000_0000 * four(r, at + 4) as u64
 }

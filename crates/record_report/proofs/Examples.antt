@@ -17,7 +17,7 @@ use Rattle.report.specs.Samples.{report401}
 use Rattle.record.specs.declared.Service.{Service}
 use Rattle.record.specs.declared.Key.{Key}
 use Rattle.record.specs.Locations.{locationOf}
-use Rattle.record.specs.Keys.{alike}
+use Rattle.record.specs.Matching.{matching}
 use Rattle.record_report.specs.Made.{recordOf}
 use Rattle.record_report.specs.Normal.{ownTable, normal}
 
@@ -37,22 +37,22 @@ report401-at flt =
       items = report401 .items;
     }
 
--- its record of class 9 that ends at minute 160, by the country and the number of its location table: the items alone, in two groups
+-- its record with class 9 alone that ends at minute 160, by the country and the number of its location table: the items alone, in two groups
 abbrev pub bytes401 : (country ltn : ℕ) → List ℕ
 bytes401 country ltn =
-    (0x01 ∷ 0x02 ∷ 0x03 ∷ 0x11 ∷ 0xF4 ∷ 0x01 ∷ 0x91 ∷ 0x01 ∷ 0x00 ∷ 0x01 ∷ 0x00 ∷ 0x02 ∷ 0xA0 ∷ 0x00 ∷ 0x00 ∷ 0x00 ∷ 0x35 ∷ 0x02 ∷ replicate 12 0) ++ (0x09 ∷ 0x0D ∷ country ∷ ltn ∷ [])
+    (0x01 ∷ 0x02 ∷ 0x03 ∷ 0x11 ∷ 0xF4 ∷ 0x01 ∷ 0x91 ∷ 0x01 ∷ 0x00 ∷ 0x01 ∷ 0x00 ∷ 0x02 ∷ 0xA0 ∷ 0x00 ∷ 0x00 ∷ 0x00 ∷ 0x35 ∷ 0x02 ∷ replicate 12 0) ++ (0x00 ∷ 0x0D ∷ country ∷ ltn ∷ 0x00 ∷ 0x02 ∷ replicate 6 0)
 
 -- in table 1 of the same country, though on air it takes three groups
-pub foreign-bytes : recordOf (report401-at 0xFF41) service 9 160 ≡ bytes401 0x0D 0x01
+pub foreign-bytes : recordOf (report401-at 0xFF41) service 0x200 160 ≡ bytes401 0x0D 0x01
 unfolding bit num bits val words unpack widths width itemBits packing filled listed fltFields isFlt foreign interRoad bytesOf groupsFor groupsOf locationOf recordOf
 foreign-bytes = refl
 
 -- at home, and with the FLT code of the service's own table
-pub home-bytes : recordOf report401 service 9 160 ≡ bytes401 0x0D 0x11
+pub home-bytes : recordOf report401 service 0x200 160 ≡ bytes401 0x0D 0x11
 unfolding bit num bits val words unpack widths width itemBits packing filled listed fltFields isFlt foreign interRoad bytesOf groupsFor groupsOf locationOf recordOf
 home-bytes = refl
 
-pub own-bytes : recordOf (report401-at 0xFF51) service 9 160 ≡ bytes401 0x0D 0x11
+pub own-bytes : recordOf (report401-at 0xFF51) service 0x200 160 ≡ bytes401 0x0D 0x11
 unfolding bit num bits val words unpack widths width itemBits packing filled listed fltFields isFlt foreign interRoad bytesOf groupsFor groupsOf locationOf recordOf
 own-bytes = refl
 
@@ -66,10 +66,10 @@ abbrev key : Report → Key
 key r = record { service = service; location = locationOf service r; direction = r .head .direction; classes = record { 0 = 0x200 } }
 
 -- neither is at the location of the other's record
-pub home-not-foreign : alike (key report401) (bytes401 0x0D 0x01) ≡ false
-unfolding bit num bits val unpack fltFields isFlt foreign interRoad locationOf alike
+pub home-not-foreign : matching (key report401) (bytes401 0x0D 0x01) ≡ false
+unfolding bit num bits val unpack fltFields isFlt foreign interRoad locationOf matching
 home-not-foreign = refl
 
-pub foreign-not-home : alike (key (report401-at 0xFF41)) (bytes401 0x0D 0x11) ≡ false
-unfolding bit num bits val unpack fltFields isFlt foreign interRoad locationOf alike
+pub foreign-not-home : matching (key (report401-at 0xFF41)) (bytes401 0x0D 0x11) ≡ false
+unfolding bit num bits val unpack fltFields isFlt foreign interRoad locationOf matching
 foreign-not-home = refl

@@ -32,11 +32,12 @@ use Rattle.record.specs.declared.Service.{Service}
 use Rattle.record.specs.Services.{serviceFits}
 use Rattle.record.specs.Locations.{locationOf}
 use Rattle.record.proofs.ReportLocations.{location-foreign, location-home}
-use Rattle.record.specs.Layout.{groupsIn, expiryIn, classIn}
+use Rattle.record.specs.Layout.{groupsIn, expiryIn, eightBytes}
+use Rattle.record.specs.Classes.{setFits}
 use Rattle.record.specs.WellFormed.{widths, within, rangesFit, marked, complete, contentBits, spareIn, restFits, wellFormed}
 use Rattle.record_report.specs.Made.{tailBytes, marksFit, canMake, recordOf}
 use Rattle.record_report.proofs.Kept.{length-bytes, groups-few}
-use Rattle.record_report.proofs.MadeFields.{used-back, groups-back, expiry-back, content-back, class-back}
+use Rattle.record_report.proofs.MadeFields.{used-back, groups-back, expiry-back, content-back, set-back}
 use Rattle.record_report.proofs.WayBack.{bits-back}
 use Rattle.record_report.proofs.Reports.{report-ranges}
 
@@ -75,33 +76,29 @@ within-any (suc n) [] ys ws l h e = absurd (omega arith)
 within-any (suc n) (x ∷ xs) ys ws l h e = within-next _ _ _ _ (h 0 (omega arith)) (within-any n xs ys ws (omega arith) (λ j k. h (suc j) (omega arith)) e)
 
 -- what is tested before a record is made
-record Ranges (r : Report) (s : Service) (class expiry : ℕ) : Type 0 where
+record Ranges (r : Report) (s : Service) (set expiry : ℕ) : Type 0 where
   report-fits : reportFits r ≡ true
   country-le : s .country ≤ 15
   ltn-le : s .ltn ≤ 63
   sid-le : s .sid ≤ 63
-  class-ge : 1 ≤ class
-  class-le : class ≤ 63
+  set-fits : setFits set ≡ true
   expiry-ge : 1 ≤ expiry
 
-ranges : (r : Report) (s : Service) (class expiry : ℕ) → canMake r s class expiry ≡ true → Ranges r s class expiry
+ranges : (r : Report) (s : Service) (set expiry : ℕ) → canMake r s set expiry ≡ true → Ranges r s set expiry
 unfolding canMake
-ranges r s class expiry e =
+ranges r s set expiry e =
     let places = leb (s .ltn) 63 && leb (s .sid) 63 in
-    let classes = leb 1 class && leb class 63 in
-    let marks = and-left (marksFit s class expiry) (reportFits r) e in
-    let service = and-left (serviceFits s) (classes && leb 1 expiry) marks in
-    let rest = and-right (serviceFits s) (classes && leb 1 expiry) marks in
+    let marks = and-left (marksFit s set expiry) (reportFits r) e in
+    let service = and-left (serviceFits s) (setFits set && leb 1 expiry) marks in
+    let rest = and-right (serviceFits s) (setFits set && leb 1 expiry) marks in
     let in-places = and-right (leb (s .country) 15) places service in
-    let in-class = and-left classes (leb 1 expiry) rest in
     record {
-      report-fits = and-right (marksFit s class expiry) (reportFits r) e;
+      report-fits = and-right (marksFit s set expiry) (reportFits r) e;
       country-le = leb-true (s .country) 15 (and-left (leb (s .country) 15) places service);
       ltn-le = leb-true (s .ltn) 63 (and-left (leb (s .ltn) 63) (leb (s .sid) 63) in-places);
       sid-le = leb-true (s .sid) 63 (and-right (leb (s .ltn) 63) (leb (s .sid) 63) in-places);
-      class-ge = leb-true 1 class (and-left (leb 1 class) (leb class 63) in-class);
-      class-le = leb-true class 63 (and-right (leb 1 class) (leb class 63) in-class);
-      expiry-ge = leb-true 1 expiry (and-right classes (leb 1 expiry) rest);
+      set-fits = and-left (setFits set) (leb 1 expiry) rest;
+      expiry-ge = leb-true 1 expiry (and-right (setFits set) (leb 1 expiry) rest);
     }
 
 module _ (r : Report) (fit : reportFits r ≡ true) where
@@ -120,12 +117,12 @@ module _ (r : Report) (fit : reportFits r ≡ true) where
           omega arith
       by-form Multi h = omega arith
 
-module _ (r : Report) (s : Service) (class expiry : ℕ) (can : canMake r s class expiry ≡ true) (short : expiry < 0x1_0000_0000) where
-  abbrev c : Ranges r s class expiry
-  c = ranges r s class expiry can
+module _ (r : Report) (s : Service) (set expiry : ℕ) (can : canMake r s set expiry ≡ true) (small : set < 2 ^ 64) (short : expiry < 0x1_0000_0000) where
+  abbrev c : Ranges r s set expiry
+  c = ranges r s set expiry can
 
   abbrev made : List ℕ
-  made = recordOf r s class expiry
+  made = recordOf r s set expiry
 
   -- the parts of its location are in their ranges
   abbrev InRange : Location → Type 0
@@ -146,8 +143,8 @@ module _ (r : Report) (s : Service) (class expiry : ℕ) (can : canMake r s clas
   spare-zero =
       let fit = c .report-fits in
       let its = listed (r .items) in
-      let hold : length (packing its) ≤ contentBits made = omega (arith, groups-hold r fit, groups-back r s class expiry) in
-      ap (λ (l : List Bool). allZero (drop (contentBits made) l)) (ap (flat 8) (content-back r s class expiry) ∙ bits-back its (its-short r fit))
+      let hold : length (packing its) ≤ contentBits made = omega (arith, groups-hold r fit, groups-back r s set expiry) in
+      ap (λ (l : List Bool). allZero (drop (contentBits made) l)) (ap (flat 8) (content-back r s set expiry) ∙ bits-back its (its-short r fit))
       ∙ zero-after (packing its) (longest - length (packing its)) (contentBits made) hold
 
   made-ranges : rangesFit made ≡ true
@@ -161,8 +158,9 @@ module _ (r : Report) (s : Service) (class expiry : ℕ) (can : canMake r s clas
       let l = locationOf s r in
       let in-table = location-in in
       let none : within [] [] ≡ true = unfold within in refl in
-      let last : within (drop 30 widths) (tailBytes class s l) ≡ true = within-next _ _ _ _ (omega arith) (within-next _ _ _ _ (omega arith) (within-next _ _ _ _ (omega arith) (within-next _ _ _ _ (omega arith) none))) in
-      let content = within-any 14 (bytesOf its) (tailBytes class s l) (drop 30 widths) (length-bytes its) (λ j k. byte-lt its j (its-short r (c .report-fits)) k) last in
+      let bytes : within (drop 34 widths) (eightBytes set) ≡ true = within-next _ _ _ _ (omega arith) (within-next _ _ _ _ (omega arith) (within-next _ _ _ _ (omega arith) (within-next _ _ _ _ (omega arith) (within-next _ _ _ _ (omega arith) (within-next _ _ _ _ (omega arith) (within-next _ _ _ _ (omega arith) (within-next _ _ _ _ (omega arith) none))))))) in
+      let last : within (drop 30 widths) (tailBytes s l set) ≡ true = within-next _ _ _ _ (omega arith) (within-next _ _ _ _ (omega arith) (within-next _ _ _ _ (omega arith) (within-next _ _ _ _ (omega arith) bytes))) in
+      let content = within-any 14 (bytesOf its) (tailBytes s l set) (drop 30 widths) (length-bytes its) (λ j k. byte-lt its j (its-short r (c .report-fits)) k) last in
       within-next _ _ _ _ (omega arith) (within-next _ _ _ _ (omega arith) (within-next _ _ _ _ (omega arith) (within-next _ _ _ _ (omega arith)
       (within-next _ _ _ _ (omega arith) (within-next _ _ _ _ (omega arith) (within-next _ _ _ _ (omega arith) (within-next _ _ _ _ (omega arith)
       (within-next _ _ _ _ (omega arith) (within-next _ _ _ _ (omega arith) (within-next _ _ _ _ (omega arith) (within-next _ _ _ _ (omega arith)
@@ -174,14 +172,13 @@ module _ (r : Report) (s : Service) (class expiry : ℕ) (can : canMake r s clas
       let known = c in
       let few = groups-few r (c .report-fits) in
       let hold = groups-hold r (c .report-fits) in
-      let groups = groups-back r s class expiry in
-      let ends : expiryIn made ≡ 0 → ⊥ = λ z. omega (arith, expiry-back r s class expiry) in
-      let classed : classIn made ≡ 0 → ⊥ = λ z. omega (arith, class-back r s class expiry) in
+      let groups = groups-back r s set expiry in
+      let ends : expiryIn made ≡ 0 → ⊥ = λ z. omega (arith, expiry-back r s set expiry) in
       ap₂ (λ (a b : Bool). a && b) (ap₂ (λ (a b : Bool). a && b) (le-leb 1 (groupsIn made) (omega arith)) (le-leb (groupsIn made) 5 (omega arith)))
-      (ap₂ (λ (a b : Bool). not a && not b) (ne-eqb (expiryIn made) 0 ends) (ne-eqb (classIn made) 0 classed))
+      (ap₂ (λ (a b : Bool). not a && b) (ne-eqb (expiryIn made) 0 ends) (ap setFits (set-back r s set expiry small) ∙ known .set-fits))
 
-  pub made-fits : wellFormed (recordOf r s class expiry) ≡ true
+  pub made-fits : wellFormed (recordOf r s set expiry) ≡ true
   unfolding wellFormed restFits
   made-fits =
       ap₂ (λ (a b : Bool). a && b) made-ranges
-      (ap (λ (n : ℕ). eqb n 0 || complete made && allZero (spareIn made)) (used-back r s class expiry) ∙ ap₂ (λ (a b : Bool). a && b) made-complete spare-zero)
+      (ap (λ (n : ℕ). eqb n 0 || complete made && allZero (spareIn made)) (used-back r s set expiry) ∙ ap₂ (λ (a b : Bool). a && b) made-complete spare-zero)

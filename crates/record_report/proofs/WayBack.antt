@@ -69,15 +69,15 @@ module _ (r : Report) where
   pub fewest-groups : r .form ≡ Multi → (k : ℕ) → 2 ≤ k → length (packing (listed (r .items))) ≤ groupBits * (k - 1) → groupsOf r ≤ k
   fewest-groups e k many hold = let n = length (packing (listed (r .items))) in omega (arith, multi-groups e)
 
-module _ (r : Report) (s : Service) (class expiry : ℕ) (sized : length (r .items .places) ≡ limit) (fit : reportFits r ≡ true) where
+module _ (r : Report) (s : Service) (set expiry : ℕ) (sized : length (r .items .places) ≡ limit) (fit : reportFits r ≡ true) where
   abbrev made : List ℕ
-  made = recordOf r s class expiry
+  made = recordOf r s set expiry
 
   normal-head : headIn made ≡ normal s r .head
-  normal-head = head-back r s class expiry ∙ same-head s r fit
+  normal-head = head-back r s set expiry ∙ same-head s r fit
 
   normal-real : realIn made ≡ normal s r .real
-  normal-real = real-back r s class expiry ∙ normal-gives s r fit .1
+  normal-real = real-back r s set expiry ∙ normal-gives s r fit .1
 
   -- the report in its normal form is that of its own head, real location and items
   multi-normal : multiReport (r .head) (r .real) (listed (r .items)) ≡ r → multiReport (normal s r .head) (normal s r .real) (listed (r .items)) ≡ normal s r
@@ -102,7 +102,7 @@ module _ (r : Report) (s : Service) (class expiry : ℕ) (sized : length (r .ite
       by-form Single e h =
           let n = single-normal s r e in
           let real = and-left (realFits (r .form) (r .head) (r .real)) (fitsBy (r .form) r) fit in
-          single-message made (groups-back r s class expiry ∙ single-groups r e)
+          single-message made (groups-back r s set expiry ∙ single-groups r e)
           ∙ ap₂ (λ (x : Head) (y : ℕ). gives (withReal y (singleReport (r .duration) (r .diversion) x))) normal-head normal-real
           ∙ ap (λ (x : Report). gives (withReal (x .real) (singleReport (r .duration) (r .diversion) (x .head)))) n
           ∙ ap (λ (x : Report). gives (withReal (r .real) x)) (single-is-report r sized real (unfold fitsBy in h) e)
@@ -113,7 +113,7 @@ module _ (r : Report) (s : Service) (class expiry : ℕ) (sized : length (r .ite
           let can = fit-writable (r .items) (report-items r fit) in
           let short = packable-short its (writable-packable its can) in
           let many : groupsIn made ≡ 1 → ⊥ = λ z. let g = multi-groups r e in let one : groups n ≡ 1 = sym g ∙ z in omega arith in
-          let bits-are = ap₂ (λ (m : ℕ) (l : List ℕ). take (groupBits * (m - 1)) (flat 8 l)) (multi-groups r e) (content-back r s class expiry) ∙ padded-back its short in
+          let bits-are = ap₂ (λ (m : ℕ) (l : List ℕ). take (groupBits * (m - 1)) (flat 8 l)) (multi-groups r e) (content-back r s set expiry) ∙ padded-back its short in
           multi-message made many
           ∙ (λ i. readItems (normal-head i) (normal-real i) (bits-are i))
           ∙ unfold readItems in ap (mapped (multiReport (normal s r .head) (normal s r .real))) (written-is-read [] its can short)
@@ -123,7 +123,7 @@ module _ (r : Report) (s : Service) (class expiry : ℕ) (sized : length (r .ite
   pub reading-back : readingIn made ≡ record { answer = Read; report = normal s r; service = s; expiry = record { 0 = expiry } }
   unfolding answered
   reading-back =
-      let used : byteAt made 0 ≡ 0 → ⊥ = λ z. omega (arith, used-back r s class expiry) in
+      let used : byteAt made 0 ≡ 0 → ⊥ = λ z. omega (arith, used-back r s set expiry) in
       used-reading made used
       ∙ ap (λ (m : Outcome Report ℕ). answered m (serviceIn made) (expiryIn made)) reads-back
-      ∙ ap₂ (λ (x : Service) (n : ℕ). answered (gives (normal s r)) x n) (service-back r s class expiry) (expiry-back r s class expiry)
+      ∙ ap₂ (λ (x : Service) (n : ℕ). answered (gives (normal s r)) x n) (service-back r s set expiry) (expiry-back r s set expiry)

@@ -1,4 +1,4 @@
--- The record of a report (documents 01, "The message table", and 02, R-1).
+-- The record of a report (documents 01, "The message table", and 02, R-1 and R-5).
 use Prim.Native.Nat.{ℕ, _/_, _%_}
 use mathlib.Core.Bool.{Bool, cond, _&&_}
 use mathlib.Core.List.{List, [], _∷_, _++_}
@@ -12,7 +12,8 @@ use Rattle.report.specs.Record.{bytesOf, groupsOf}
 use Rattle.record.specs.declared.Service.{Service}
 use Rattle.record.specs.Services.{serviceFits}
 use Rattle.record.specs.Locations.{locationOf}
-use Rattle.record.specs.Layout.{isRecord}
+use Rattle.record.specs.Layout.{fourBytes, eightBytes, isRecord}
+use Rattle.record.specs.Classes.{setFits}
 use Rattle.record_report.specs.declared.Making.{Making}
 use Rattle.record_report.specs.declared.Making.the-variants.{Made, Refused}
 
@@ -24,35 +25,31 @@ markBytes groups s = 1 ∷ groups ∷ s .sid ∷ s .ltn ∷ []
 abbrev pub headBytes : Location → Head → ℕ → ℕ → List ℕ
 headBytes l h diversion duration = l .code % 256 ∷ l .code / 256 ∷ h .event % 256 ∷ h .event / 256 ∷ h .direction ∷ h .extent ∷ diversion ∷ duration ∷ []
 
--- bytes 12 to 15: when it ends
-abbrev pub expiryBytes : ℕ → List ℕ
-expiryBytes n = n % 256 ∷ n / 0x100 % 256 ∷ n / 0x1_0000 % 256 ∷ n / 0x100_0000 ∷ []
-
--- bytes 0 to 15
+-- bytes 0 to 15: these, and when it ends
 abbrev pub frontBytes : ℕ → Report → Service → Location → ℕ → List ℕ
-frontBytes groups r s l expiry = (markBytes groups s ++ headBytes l (r .head) (r .diversion) (r .duration)) ++ expiryBytes expiry
+frontBytes groups r s l expiry = (markBytes groups s ++ headBytes l (r .head) (r .diversion) (r .duration)) ++ fourBytes expiry
 
--- bytes 30 to 33: class, country, country and LTN of the location
-abbrev pub tailBytes : ℕ → Service → Location → List ℕ
-tailBytes class s l = class ∷ s .country ∷ l .country ∷ l .ltn ∷ []
+-- bytes 30 to 41: zero, country, country and LTN of the location, the set of classes
+abbrev pub tailBytes : Service → Location → ℕ → List ℕ
+tailBytes s l set = (0 ∷ s .country ∷ l .country ∷ l .ltn ∷ []) ++ eightBytes set
 
--- the record: the fewest groups for the items, the report's location, the items zero filled, and the class
-unfoldable pub recordOf : Report → Service → (class expiry : ℕ) → List ℕ
-recordOf r s class expiry =
-    frontBytes (groupsOf r) r s (locationOf s r) expiry ++ (bytesOf (listed (r .items)) ++ tailBytes class s (locationOf s r))
+-- the record: the fewest groups for the items, the report's location, the items zero filled, and the set of classes
+unfoldable pub recordOf : Report → Service → (set expiry : ℕ) → List ℕ
+recordOf r s set expiry =
+    frontBytes (groupsOf r) r s (locationOf s r) expiry ++ (bytesOf (listed (r .items)) ++ tailBytes s (locationOf s r) set)
 
--- a service, an update class and an expiry that a record may have
-abbrev pub marksFit : Service → (class expiry : ℕ) → Bool
-marksFit s class expiry = serviceFits s && ((leb 1 class && leb class 63) && leb 1 expiry)
+-- a service, a set of classes and an expiry that a record may have
+abbrev pub marksFit : Service → (set expiry : ℕ) → Bool
+marksFit s set expiry = serviceFits s && (setFits set && leb 1 expiry)
 
 -- with a report that a writer takes, a record is made of them
-unfoldable pub canMake : Report → Service → (class expiry : ℕ) → Bool
-canMake r s class expiry = marksFit s class expiry && reportFits r
+unfoldable pub canMake : Report → Service → (set expiry : ℕ) → Bool
+canMake r s set expiry = marksFit s set expiry && reportFits r
 
 -- in bytes that are one record's; other bytes are refused (10), then what no record is made of (9)
-unfoldable pub makingIn : List ℕ → Report → Service → (class expiry : ℕ) → Making
-makingIn out r s class expiry = cond (isRecord out) (cond (canMake r s class expiry) Made (Refused 9)) (Refused 10)
+unfoldable pub makingIn : List ℕ → Report → Service → (set expiry : ℕ) → Making
+makingIn out r s set expiry = cond (isRecord out) (cond (canMake r s set expiry) Made (Refused 9)) (Refused 10)
 
 -- and a refusal leaves the bytes
-unfoldable pub bytesMade : List ℕ → Report → Service → (class expiry : ℕ) → List ℕ
-bytesMade out r s class expiry = cond (isRecord out && canMake r s class expiry) (recordOf r s class expiry) out
+unfoldable pub bytesMade : List ℕ → Report → Service → (set expiry : ℕ) → List ℕ
+bytesMade out r s set expiry = cond (isRecord out && canMake r s set expiry) (recordOf r s set expiry) out

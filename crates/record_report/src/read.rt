@@ -144,7 +144,7 @@ fn content(r: &[u8]) -> Content
     ensures { λ c. ⌜ take longest (bitsOf c) ≡ flat 8 (contentIn (now (r .entry))) ⌝ }
 {
     let high = load(&r[Record::CONTENT..LOW]);
-    let low = load(&r[LOW..Record::CLASS]);
+    let low = load(&r[LOW..Record::RESERVED]);
     Content {
         high,
         low: low * TO_THE_TOP,

@@ -10,18 +10,18 @@ use lib.Dec.{eqb}
 use borrow.Author.Tests.{eqb-true, eqb-false, eq-eqb, leb-false, not-true}
 use Rattle.bits.proofs.Choice.{and-left, and-right, chosen, passed-over}
 use Rattle.record.specs.Layout.{recordSize, freeRecord, isFree}
+use Rattle.record.specs.Matching.{matching}
 use Rattle.record.specs.Gone.{expired, either}
 use Rattle.record_report.specs.Made.{recordOf}
 use Rattle.record_report.proofs.MadeFields.{length-made}
 use Rattle.lent.proofs.Lents.{lent-whole}
-use Rattle.matching.specs.Matching.{matching}
-use Rattle.matching.proofs.Matches.{matching-used}
+use Rattle.classes.specs.Keys.{keyOf}
 use Rattle.checks.specs.declared.Arrival.{Arrival}
-use Rattle.checks.specs.Events.{kindFor, classFor, expiryFor}
+use Rattle.checks.specs.Events.{kindFor, expiryFor}
 use Rattle.checks.specs.Checks.{checkRefusal}
 use Rattle.checks.proofs.Checked.{Checked, checked}
 use Rattle.table.specs.Steps.{afterMatching, placeIn, noRoom, afterStoring}
-use Rattle.table.specs.Take.{matches, matchesOf, recordFor, takeRefusal, takenTable, takeTable}
+use Rattle.table.specs.Take.{matches, matchesOf, setFor, recordFor, takeRefusal, takenTable, takeTable}
 use Rattle.table.proofs.Counts.{clash}
 use Rattle.table.proofs.Freeing.{length-both, whole-both}
 use Rattle.table.proofs.Takes.{refused-take, accepted-take}
@@ -35,8 +35,8 @@ unfolding expired
 expired-used minute r h = not-true (isFree r) (and-left (not (isFree r)) _ h)
 
 pub matches-used : (c : List ℕ) (a : Arrival) → OnlyUsed (matchesOf c a)
-unfolding matches
-matches-used c a r h = matching-used c (a .service) (a .report) r (and-right (eqb (kindFor c (a .report)) 1 || eqb (kindFor c (a .report)) 2) (matching c (a .service) (a .report) r) h)
+unfolding matches matching
+matches-used c a r h = not-true (isFree r) (and-left (not (isFree r)) _ (and-right (eqb (kindFor c (a .report)) 1 || eqb (kindFor c (a .report)) 2) (matching (keyOf c (a .service) (a .report)) r) h))
 
 pub either-used : (p q : List ℕ → Bool) → OnlyUsed p → OnlyUsed q → OnlyUsed (either p q)
 either-used p q f g r h = by-first (p r) refl
@@ -75,7 +75,7 @@ module _ (t c l : List ℕ) (last : ℕ) (a : Arrival) (lto : ℤ) where
   made-used = refl
 
   pub made-sized : length made ≡ recordSize
-  made-sized = length-made (a .report) (a .service) (classFor c (a .report)) (expiryFor c l a lto)
+  made-sized = length-made (a .report) (a .service) (setFor c (a .report)) (expiryFor c l a lto)
 
   -- past the checks, and with room where it is needed
   pub passed : takeRefusal t c l last a lto ≡ 0 → (checkRefusal t c l last a lto ≡ 0) × (eqb kind 1 && noRoom minute (matchesOf c a) t ≡ false)

@@ -14,19 +14,16 @@ use Rattle.location.specs.Flt.{fltFields, isFlt, foreign}
 use Rattle.report.specs.InterRoad.{interRoad, itemsAt, realBits, contentOf}
 use Rattle.report.specs.Fits.{singleFits, agrees, itemsFit, contentFits, multiFits, fitsBy, realFits, reportFits}
 use Rattle.clock.specs.Time.{offsetFits}
-use Rattle.record.specs.Layout.{freeRecord}
+use Rattle.record.specs.Layout.{freeRecord, fourBytes, eightBytes}
 use Rattle.record.specs.Locations.{locationOf}
-use Rattle.record.specs.Keys.{alike}
+use Rattle.record.specs.Matching.{matching}
 use Rattle.record.specs.Gone.{expired, freedIf}
 use Rattle.record.specs.WellFormed.{widths, within, rangesFit, marked, complete, restFits, wellFormed}
-use Rattle.record_report.specs.Made.{expiryBytes}
 use Rattle.lent.specs.Records.{chunks, records, allOf}
 use Rattle.lent.specs.Table.{sized, tableFits}
 use Rattle.lent.specs.Catalogue.{entryFits, catalogueFits}
 use Rattle.lent.specs.Lives.{livesFit}
 use Rattle.lent.specs.Lent.{lentFit}
-use Rattle.matching.specs.Classes.{classed}
-use Rattle.matching.specs.Matching.{matching}
 use Rattle.checks.specs.declared.Arrival.{Arrival}
 use Rattle.checks.specs.Checks.{askedFit, laterRefusal, checkRefusal}
 use Rattle.table.specs.declared.Answer.the-variants.{Freed, Stored, Refused}
@@ -37,7 +34,7 @@ use Rattle.table.specs.Take.{matches, takeRefusal, takenStep, takeStep}
 
 -- a table of one record, which ends at minute 100
 abbrev pub until-100 : List ℕ
-until-100 = (1 ∷ 1 ∷ replicate 10 0) ++ (expiryBytes 100 ++ (replicate 14 0 ++ (1 ∷ 0 ∷ 0 ∷ 0 ∷ [])))
+until-100 = (1 ∷ 1 ∷ replicate 10 0) ++ (fourBytes 100 ++ (replicate 18 0 ++ eightBytes 2))
 
 pub stays-at-99 : (expireStep until-100 0 99 ≡ step 99 (Freed 0 0)) × (expireTable until-100 0 99 ≡ until-100)
 unfolding bit bits flat allZero num widths within rangesFit marked complete restFits wellFormed expired freedIf chunks records joined allOf countIf over countWhere sized tableFits expireRefusal expireStep expireTable
@@ -59,11 +56,11 @@ abbrev pub lives : List ℕ
 lives = replicate 16 60
 
 pub own-location : takeStep freeRecord catalogue lives 0 (arrival 0xFBFF) (pos 0) ≡ step 0 (Stored 0 0 0)
-unfolding bit bits flat allZero num widths within rangesFit marked complete restFits wellFormed expired alike classed matching freedIf chunks records joined allOf countIf firstOf over countWhere lowestFree sized tableFits entryFits catalogueFits livesFit fits offsetFits filled wellPlaced allZeroItems zeroItem singleFits fitsBy reportFits lentFit isFlt fltFields unpack val locationOf interRoad itemsAt realFits askedFit laterRefusal checkRefusal matches afterMatching matchedIn placeIn takeRefusal takenStep takeStep
+unfolding bit bits flat allZero num widths within rangesFit marked complete restFits wellFormed expired matching freedIf chunks records joined allOf countIf firstOf over countWhere lowestFree sized tableFits entryFits catalogueFits livesFit fits offsetFits filled wellPlaced allZeroItems zeroItem singleFits fitsBy reportFits lentFit isFlt fltFields unpack val locationOf interRoad itemsAt realFits askedFit laterRefusal checkRefusal matches afterMatching matchedIn placeIn takeRefusal takenStep takeStep
 own-location = refl
 
 pub foreign-location : takeStep freeRecord catalogue lives 0 (arrival 0xFC00) (pos 0) ≡ step 0 (Refused 12)
-unfolding bit bits flat allZero num widths within rangesFit marked complete restFits wellFormed expired alike classed matching freedIf chunks records joined allOf countIf firstOf over countWhere lowestFree sized tableFits entryFits catalogueFits livesFit fits offsetFits filled wellPlaced allZeroItems zeroItem singleFits fitsBy reportFits lentFit isFlt fltFields unpack val locationOf interRoad itemsAt realFits askedFit laterRefusal checkRefusal matches afterMatching matchedIn placeIn takeRefusal takenStep takeStep
+unfolding bit bits flat allZero num widths within rangesFit marked complete restFits wellFormed expired matching freedIf chunks records joined allOf countIf firstOf over countWhere lowestFree sized tableFits entryFits catalogueFits livesFit fits offsetFits filled wellPlaced allZeroItems zeroItem singleFits fitsBy reportFits lentFit isFlt fltFields unpack val locationOf interRoad itemsAt realFits askedFit laterRefusal checkRefusal matches afterMatching matchedIn placeIn takeRefusal takenStep takeStep
 foreign-location = refl
 
 -- an INTER-ROAD report without items at a real location in table 1 of country 13
@@ -71,9 +68,9 @@ abbrev pub inter-road : ℕ → Arrival
 inter-road real = record { report = multiReport (record { direction = 0; extent = 0; event = 0; location = 0xFF41 }) real []; service = record { country = 1; ltn = 1; sid = 1 }; minute = record { 0 = 0 } }
 
 pub real-location : takeStep freeRecord catalogue lives 0 (inter-road 0xFBFF) (pos 0) ≡ step 0 (Stored 0 0 0)
-unfolding bit bits flat allZero num widths within rangesFit marked complete restFits wellFormed expired alike classed matching freedIf chunks records joined allOf countIf firstOf over countWhere lowestFree sized tableFits entryFits catalogueFits livesFit fits offsetFits filled wellPlaced allZeroItems zeroItem listed itemBits packing allFit lastZero packable writable firstWhere realBits contentOf agrees itemsFit contentFits multiFits singleFits fitsBy reportFits lentFit isFlt fltFields unpack val foreign locationOf interRoad itemsAt realFits askedFit laterRefusal checkRefusal matches afterMatching matchedIn placeIn takeRefusal takenStep takeStep
+unfolding bit bits flat allZero num widths within rangesFit marked complete restFits wellFormed expired matching freedIf chunks records joined allOf countIf firstOf over countWhere lowestFree sized tableFits entryFits catalogueFits livesFit fits offsetFits filled wellPlaced allZeroItems zeroItem listed itemBits packing allFit lastZero packable writable firstWhere realBits contentOf agrees itemsFit contentFits multiFits singleFits fitsBy reportFits lentFit isFlt fltFields unpack val foreign locationOf interRoad itemsAt realFits askedFit laterRefusal checkRefusal matches afterMatching matchedIn placeIn takeRefusal takenStep takeStep
 real-location = refl
 
 pub no-real-location : takeStep freeRecord catalogue lives 0 (inter-road 0xFC00) (pos 0) ≡ step 0 (Refused 12)
-unfolding bit bits flat allZero num widths within rangesFit marked complete restFits wellFormed expired alike classed matching freedIf chunks records joined allOf countIf firstOf over countWhere lowestFree sized tableFits entryFits catalogueFits livesFit fits offsetFits filled wellPlaced allZeroItems zeroItem listed itemBits packing allFit lastZero packable writable firstWhere realBits contentOf agrees itemsFit contentFits multiFits singleFits fitsBy reportFits lentFit isFlt fltFields unpack val foreign locationOf interRoad itemsAt realFits askedFit laterRefusal checkRefusal matches afterMatching matchedIn placeIn takeRefusal takenStep takeStep
+unfolding bit bits flat allZero num widths within rangesFit marked complete restFits wellFormed expired matching freedIf chunks records joined allOf countIf firstOf over countWhere lowestFree sized tableFits entryFits catalogueFits livesFit fits offsetFits filled wellPlaced allZeroItems zeroItem listed itemBits packing allFit lastZero packable writable firstWhere realBits contentOf agrees itemsFit contentFits multiFits singleFits fitsBy reportFits lentFit isFlt fltFields unpack val foreign locationOf interRoad itemsAt realFits askedFit laterRefusal checkRefusal matches afterMatching matchedIn placeIn takeRefusal takenStep takeStep
 no-real-location = refl

@@ -9,4 +9,3 @@ pub mod Accepted
 pub mod Demand2
 pub mod Theorems
 pub mod Examples
-pub mod AdditionalEvents

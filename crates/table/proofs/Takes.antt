@@ -9,9 +9,11 @@ use lib.ListN.{length}
 use lib.Dec.{eqb}
 use borrow.Author.Tests.{eq-eqb, ne-eqb}
 use Rattle.bits.proofs.Choice.{chosen, passed-over}
-use Rattle.record.specs.Layout.{recordSize}
+use Rattle.record.specs.declared.Key.{Key}
+use Rattle.record.specs.Layout.{recordSize, freeRecord}
+use Rattle.record.specs.Matching.{matching}
 use Rattle.lent.specs.Table.{tableFits}
-use Rattle.matching.specs.Matching.{matching}
+use Rattle.classes.specs.Keys.{keyOf}
 use Rattle.checks.specs.declared.Arrival.{Arrival}
 use Rattle.checks.specs.Events.{kindFor}
 use Rattle.checks.specs.Checks.{minuteUnfit, checkRefusal}
@@ -21,6 +23,11 @@ use Rattle.table.specs.Steps.{step, afterExpiry, expiredIn, afterMatchin
 use Rattle.table.specs.Expire.{expireRefusal, expireStep, expireTable}
 use Rattle.table.specs.Take.{matches, matchesOf, recordFor, takeRefusal, takenStep, takenTable, takeStep, takeTable}
 use Rattle.table.proofs.Freeing.{nothing-matched, nothing-changed}
+
+-- no free record matches
+pub never-free : (key : Key) → matching key freeRecord ≡ false
+unfolding matching
+never-free key = refl
 
 -- what matches, for an event of kind 1 or 2 and for another
 pub matches-is : (kind : ℕ) (q : List ℕ → Bool) (b : Bool) → eqb kind 1 || eqb kind 2 ≡ b → matches kind q ≡ (λ r. b && q r)
@@ -70,7 +77,7 @@ module _ (t c l : List ℕ) (last : ℕ) (a : Arrival) (lto : ℤ) where
       kind = kindFor c (a .report)
 
       abbrev match : List ℕ → Bool
-      match = matching c (a .service) (a .report)
+      match = matching (keyOf c (a .service) (a .report))
 
       -- with a test that says the same as what matches
       taken : (q : List ℕ → Bool) → matchesOf c a ≡ q → takeRefusal t c l last a lto ≡ 0 → Way (takenStep kind m q t) (takenTable kind m q (recordFor c l a lto) t)

@@ -11,35 +11,36 @@ use lib.Seq.{getD-set-same, getD-set-other}
 use lib.Dec.{leb, eqb}
 use borrow.Author.Tests.{eq-eqb, ne-eqb, lt-leb}
 use Rattle.bits.specs.Bits.{num}
-use Rattle.bits.proofs.Choice.{and-left, chosen, passed-over}
+use Rattle.bits.proofs.Choice.{and-left, and-right, chosen, passed-over}
 use Rattle.content.specs.Stored.{limit}
+use Rattle.report.specs.Fits.{reportFits}
 use Rattle.report.specs.Record.{groupsOf}
 use Rattle.record.specs.Layout.{recordSize, freeRecord, groupsIn}
-use Rattle.record.specs.Classes.{share}
+use Rattle.record.specs.Services.{serviceFits}
+use Rattle.record.specs.Classes.{meet, setFits}
+use Rattle.record.specs.Matching.{matching}
 use Rattle.record.specs.Gone.{expired, either, freedIf}
 use Rattle.record.specs.WellFormed.{wellFormed}
+use Rattle.record.proofs.ClassSets.{set-shared}
 use Rattle.record.proofs.FreeFits.{free-fits}
 use Rattle.record_report.specs.declared.Answer.the-variants.{Read}
-use Rattle.record_report.specs.Made.{canMake}
+use Rattle.record_report.specs.Made.{marksFit, canMake}
 use Rattle.record_report.specs.Normal.{normal}
 use Rattle.record_report.specs.Reads.{readingIn}
-use Rattle.record_report.proofs.MadeFields.{groups-back, made-alike}
+use Rattle.record_report.proofs.MadeFields.{groups-back, set-back, made-matches}
 use Rattle.record_report.proofs.WayBack.{reading-back}
 use Rattle.lent.specs.Records.{records, allOf}
-use Rattle.lent.specs.Catalogue.{hasClass}
 use Rattle.lent.specs.Table.{sized, tableFits}
 use Rattle.lent.proofs.Lents.{table-whole, table-records, lent-table}
-use Rattle.matching.specs.Classes.{classed, allClassed, classesOf}
-use Rattle.matching.specs.Matching.{matching}
-use Rattle.matching.proofs.Matches.{shares-own}
-use Rattle.matching.proofs.MadeClasses.{made-classes, made-classed, free-classed}
+use Rattle.classes.specs.Keys.{keyOf}
+use Rattle.classes.proofs.ReportSets.{set-small}
 use Rattle.checks.specs.declared.Arrival.{Arrival}
-use Rattle.checks.specs.Events.{entryFor, kindFor, classFor, expiryFor}
+use Rattle.checks.specs.Events.{kindFor, expiryFor}
 use Rattle.checks.proofs.Checked.{asked-report, ends}
 use Rattle.table.specs.Records.{countIf, freeWhere, stored}
 use Rattle.table.specs.Steps.{afterMatching, placeIn, afterStoring}
 use Rattle.table.specs.Expire.{expireRefusal, expireTable}
-use Rattle.table.specs.Take.{matches, matchesOf, recordFor, takeRefusal, takenTable, takeTable}
+use Rattle.table.specs.Take.{matches, matchesOf, setFor, recordFor, takeRefusal, takenTable, takeTable}
 use Rattle.table.specs.Read.{recordAt}
 use Rattle.table.proofs.Counts.{count-map, count-none, count-set, all-map, all-set}
 use Rattle.table.proofs.Sweeps.{length-records, length-over, records-over}
@@ -134,14 +135,8 @@ module _ (t c l : List ℕ) (last : ℕ) (a : Arrival) (lto : ℤ) where
       room = omega (arith, length-map (records t) (freedIf (either (expired minute) match)), length-records t, inside t c l last a lto fine is-1)
 
       -- what its record is made of
-      can : canMake (a .report) (a .service) (classFor c (a .report)) (expiryFor c l a lto) ≡ true
+      can : canMake (a .report) (a .service) (setFor c (a .report)) (expiryFor c l a lto) ≡ true
       can = can-make t c l last a lto (ok t c l last a lto fine) is-1
-
-      early : expiryFor c l a lto < 0x1_0000_0000
-      early = ends t c l last a lto (ok t c l last a lto fine) .1
-
-      has : hasClass (entryFor c (a .report)) ≡ true
-      has = ap (λ (b : Bool). b || eqb kind 2) (eq-eqb kind 1 is-1)
 
       stored-records : records after ≡ set freed place (recordFor c l a lto)
       unfolding takenTable afterStoring
@@ -160,20 +155,21 @@ module _ (t c l : List ℕ) (last : ℕ) (a : Arrival) (lto : ℤ) where
 
       -- in the fewest groups that hold it (`single-groups`, `fewest-groups` in record)
       pub stored-groups : groupsIn (recordNo after place) ≡ groupsOf (a .report)
-      stored-groups = ap groupsIn stored-there ∙ groups-back (a .report) (a .service) (classFor c (a .report)) (expiryFor c l a lto)
+      stored-groups = ap groupsIn stored-there ∙ groups-back (a .report) (a .service) (setFor c (a .report)) (expiryFor c l a lto)
 
-      -- it matches its own report, whose class it has
-      own-matches : length (a .report .items .places) ≡ limit → matching c (a .service) (a .report) (recordFor c l a lto) ≡ true
-      unfolding matching
-      own-matches sized =
-          ap₂ (λ (x y : Bool). x && y) (made-alike (a .report) (a .service) (classFor c (a .report)) (expiryFor c l a lto) _)
-          (ap (share (classesOf c (a .report))) (made-classes c (a .report) (a .service) (classFor c (a .report)) (expiryFor c l a lto) sized can early) ∙ shares-own c (a .report) has)
+      -- it matches its own report, whose classes it has
+      own-matches : matching (keyOf c (a .service) (a .report)) (recordFor c l a lto) ≡ true
+      unfolding canMake
+      own-matches =
+          let set = setFor c (a .report) in
+          let some = set-shared set (and-left (setFits set) (leb 1 (expiryFor c l a lto)) (and-right (serviceFits (a .service)) (setFits set && leb 1 (expiryFor c l a lto)) (and-left (marksFit (a .service) set (expiryFor c l a lto)) (reportFits (a .report)) can))) in
+          made-matches (a .report) (a .service) set (expiryFor c l a lto) set (ap (meet set) (set-back (a .report) (a .service) set (expiryFor c l a lto) (set-small c (a .report))) ∙ some)
 
       -- it is then the only one of its service, location and direction that shares a class with it
-      pub only-record : length (a .report .items .places) ≡ limit → countIf match (records after) ≡ 1
+      pub only-record : countIf match (records after) ≡ 1
       unfolding matches num
-      only-record sized =
-          let own : match (recordFor c l a lto) ≡ true = ap₂ (λ (x y : Bool). (x || eqb kind 2) && y) (eq-eqb kind 1 is-1) (own-matches sized) in
+      only-record =
+          let own : match (recordFor c l a lto) ≡ true = ap₂ (λ (x y : Bool). (x || eqb kind 2) && y) (eq-eqb kind 1 is-1) own-matches in
           let free : match (getD freed place freeRecord) ≡ false = ap match (each-record (either (expired minute) match) (records t) place) ∙ second-gone (expired minute) match (matches-never t c l last a lto) (recordNo t place) in
           let old : num (match (getD freed place freeRecord)) ≡ 0 = ap num free in
           let new : num (match (recordFor c l a lto)) ≡ 1 = ap num own in
@@ -187,13 +183,7 @@ module _ (t c l : List ℕ) (last : ℕ) (a : Arrival) (lto : ℤ) where
           chosen _ _ _ (take-keeps (lent-table t c l (ok t c l last a lto fine .lent)))
           ∙ passed-over _ _ _ within
           ∙ ap readingIn stored-there
-          ∙ reading-back (a .report) (a .service) (classFor c (a .report)) (expiryFor c l a lto) sized (asked-report t c l last a lto (ok t c l last a lto fine .asked))
-
-  -- a table that is not refused for its records' classes is not refused for them after the take either, with the same catalogue
-  pub take-keeps-classes : length (a .report .items .places) ≡ limit → allClassed c t ≡ true → allClassed c after ≡ true
-  take-keeps-classes sized =
-      each-keeps (classed c) (free-classed c)
-      (λ fine is-1. made-classed c (a .report) (a .service) (classFor c (a .report)) (expiryFor c l a lto) sized (can fine is-1) (early fine is-1) ∙ has fine is-1)
+          ∙ reading-back (a .report) (a .service) (setFor c (a .report)) (expiryFor c l a lto) sized (asked-report t c l last a lto (ok t c l last a lto fine .asked))
 
 -- Expiry alone keeps a well-formed table well-formed, and every test that holds of its records and of a free one.
 module _ (t : List ℕ) (last minute : ℕ) (fits : tableFits t ≡ true) where
@@ -212,6 +202,3 @@ module _ (t : List ℕ) (last minute : ℕ) (fits : tableFits t ≡ true) where
   expire-keeps =
       fits-again (expireTable t last minute) t (expiry-keeps (λ u. length u ≡ length t) refl (length-over (freedIf (expired minute)) (freed-keeps (expired minute)) t (table-whole t fits)))
       (each-keeps-expiry wellFormed free-fits (table-records t fits)) fits
-
-  pub expire-keeps-classes : (c : List ℕ) → allClassed c t ≡ true → allClassed c (expireTable t last minute) ≡ true
-  expire-keeps-classes c = each-keeps-expiry (classed c) (free-classed c)

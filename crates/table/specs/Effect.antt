@@ -1,7 +1,7 @@
 -- Demand 2 of the table: what a call on it does (document 01, "The message table").
 use Prim.Native.Nat.{ℕ, _≤_, _<_}
 use mathlib.Core.Path.{_≡_}
-use mathlib.Core.Bool.{true, false, not}
+use mathlib.Core.Bool.{Bool, true, false, not}
 use mathlib.Core.List.{List, map}
 use lib.ListN.{length, set}
 use Rattle.record.specs.Layout.{isFree}
@@ -38,5 +38,8 @@ pub data Effect (catalogue t : List ℕ) (last : ℕ) (call : Call) : Step → L
       → Effect catalogue t last call (step (minuteOf call) (Stored (expiredBy call (records t)) (matchedBy catalogue call (records t)) place)) after
 
 -- the records that are used
+abbrev pub used : List ℕ → Bool
+used r = not (isFree r)
+
 abbrev pub usedIn : List ℕ → ℕ
-usedIn t = countIf (λ r. not (isFree r)) (records t)
+usedIn t = countIf used (records t)

@@ -1,13 +1,17 @@
--- Taking a report (documents 01, "The message table", and 02, R-4; ISO 14819-1, clauses 6.4 and 6.5).
+-- Taking a report (documents 01, "The message table", and 02, R-4 and R-5; ISO 14819-1, clauses 6.4 and 6.5).
 use Prim.Native.Nat.{ℕ}
 use mathlib.Core.Bool.{Bool, cond, _&&_, _||_}
 use mathlib.Core.List.{List}
 use lib.IntN.{ℤ}
 use lib.Dec.{eqb}
+use Rattle.report.specs.declared.Report.{Report}
+use Rattle.record.specs.Classes.{setOf}
+use Rattle.record.specs.Matching.{matching}
 use Rattle.record_report.specs.Made.{recordOf}
-use Rattle.matching.specs.Matching.{matching}
+use Rattle.classes.specs.Classes.{classesOf}
+use Rattle.classes.specs.Keys.{keyOf}
 use Rattle.checks.specs.declared.Arrival.{Arrival}
-use Rattle.checks.specs.Events.{kindFor, classFor, expiryFor}
+use Rattle.checks.specs.Events.{kindFor, expiryFor}
 use Rattle.checks.specs.Checks.{checkRefusal}
 use Rattle.table.specs.declared.Step.{Step}
 use Rattle.table.specs.declared.Answer.the-variants.{Freed, Stored, Refused}
@@ -19,11 +23,15 @@ matches kind match r = (eqb kind 1 || eqb kind 2) && match r
 
 -- those that match the report
 abbrev pub matchesOf : List ℕ → Arrival → List ℕ → Bool
-matchesOf catalogue a = matches (kindFor catalogue (a .report)) (matching catalogue (a .service) (a .report))
+matchesOf catalogue a = matches (kindFor catalogue (a .report)) (matching (keyOf catalogue (a .service) (a .report)))
 
--- the record to be stored, which ends by its life
+-- the set of its classes
+abbrev pub setFor : List ℕ → Report → ℕ
+setFor catalogue r = setOf (classesOf catalogue r)
+
+-- the record to be stored, with the set of its classes, which ends by its life
 abbrev pub recordFor : (catalogue lives : List ℕ) → Arrival → ℤ → List ℕ
-recordFor catalogue lives a lto = recordOf (a .report) (a .service) (classFor catalogue (a .report)) (expiryFor catalogue lives a lto)
+recordFor catalogue lives a lto = recordOf (a .report) (a .service) (setFor catalogue (a .report)) (expiryFor catalogue lives a lto)
 
 -- the first refusal, or 0: the checks, and then room for an event of kind 1
 unfoldable pub takeRefusal : (t catalogue lives : List ℕ) → ℕ → Arrival → ℤ → ℕ

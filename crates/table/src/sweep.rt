@@ -3,14 +3,14 @@ ghost use mathlib.Core.Path.{_≡_};
 ghost use Prim.Native.Nat.{_%_};
 ghost use lib.ListN.{length};
 ghost use Rattle.record.specs.Layout.{recordSize};
-ghost use Rattle.matching.specs.Matching.{keyMatches};
+ghost use Rattle.record.specs.Matching.{matching};
 ghost use Rattle.table.specs.Steps.{afterExpiry, expiredIn, afterMatching, matchedIn};
 use clock::Utc;
-use matching::freeing::free_gone;
 use record::Freed;
 use record::Key;
 use record::Record;
 use record::freeing::free_expired;
+use record::freeing::free_gone;
 
 // Frees every record that has expired by the minute, and answers how many there were.
 pub(crate) fn sweep_expired(t: &mut [u8], minute: Utc) -> usize
@@ -31,10 +31,10 @@ pub(crate) fn sweep_expired(t: &mut [u8], minute: Utc) -> usize
 }
 
 // Frees every record that has expired by the minute, and of the others those that match; answers how many there were of each.
-pub(crate) fn sweep_gone(t: &mut [u8], catalogue: &[u16], minute: Utc, key: Key) -> Freed
+pub(crate) fn sweep_gone(t: &mut [u8], minute: Utc, key: Key) -> Freed
     requires { ⌜ length (now t) % recordSize ≡ 0 ⌝ }
-    ensures { λ f. ⌜ f ≡ record { expired = expiredIn (minute .0) (now (t .entry)); matched = matchedIn (minute .0) (keyMatches (now (catalogue .entry)) key) (now (t .entry)) } ⌝ }
-    ensures { λ _. ⌜ now (t .exit) ≡ afterMatching (minute .0) (keyMatches (now (catalogue .entry)) key) (now (t .entry)) ⌝ }
+    ensures { λ f. ⌜ f ≡ record { expired = expiredIn (minute .0) (now (t .entry)); matched = matchedIn (minute .0) (matching key) (now (t .entry)) } ⌝ }
+    ensures { λ _. ⌜ now (t .exit) ≡ afterMatching (minute .0) (matching key) (now (t .entry)) ⌝ }
 {
     let records = t.len() / Record::SIZE;
     // The expired records are counted down from all: two counts that go the same way are kept in memory as one vector.
@@ -44,7 +44,7 @@ pub(crate) fn sweep_gone(t: &mut [u8], catalogue: &[u16], minute: Utc, key: Key)
     while i < records {
         let a = i * Record::SIZE;
         let e = a + Record::SIZE;
-        let freed = free_gone(&mut t[a..e], catalogue, minute, key);
+        let freed = free_gone(&mut t[a..e], minute, key);
         unexpired -= freed.expired;
         matched += freed.matched;
         i += 1;

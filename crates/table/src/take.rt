@@ -4,8 +4,8 @@ ghost use mathlib.Core.Bool.{true, cond};
 ghost use Prim.Native.Nat.{_/_, _%_, _<_};
 ghost use lib.ListN.{length};
 ghost use Rattle.record.specs.Layout.{recordSize};
+ghost use Rattle.record.specs.Matching.{matching};
 ghost use Rattle.record_report.specs.Made.{recordOf, canMake};
-ghost use Rattle.matching.specs.Matching.{keyMatches};
 ghost use Rattle.checks.specs.Checks.{checkRefusal};
 ghost use Rattle.table.specs.declared.Answer.the-variants.{Freed, Stored, Refused};
 ghost use Rattle.table.specs.Records.{stored};
@@ -20,23 +20,23 @@ use crate::search::find_free;
 use crate::sweep::sweep_gone;
 use checks::Arrival;
 use checks::check;
+use classes::of_report;
 use clock::Expiry;
 use clock::Utc;
 use lent::Lent;
 use lent::catalogue::Entry;
-use matching::classes::of_report;
 use record::Key;
 use record::Record;
 use record::Service;
+use record::classes::Classes;
 use record_report::make::put;
 use report::Report;
 
 impl Table {
     // Takes a report of a service at a minute with a local time offset: frees the expired records and, for an ordinary or a cancelling
     // event, the matching ones, and stores the report of an ordinary event in the lowest-numbered free record. Refused, in this order: a
-    // malformed table, catalogue or lives, and a used record whose content does not read as items or whose first event has no update class
-    // (10), an unfit report, service or offset (9), a minute below the last one or too large (13), a location whose code is an FLT code
-    // (12), an unknown event (11), no room (14). A refusal changes nothing.
+    // malformed table, catalogue or lives (10), an unfit report, service or offset (9), a minute below the last one or too large (13), a
+    // location whose code is an FLT code (12), an unknown event (11), no room (14). A refusal changes nothing.
     pub fn take(
         t: &mut [u8],
         catalogue: &[u16],
@@ -86,26 +86,24 @@ fn take_checked(
         classes: of_report(report, catalogue),
     };
     if kind == Entry::CANCELLING {
-        return take_cancelling(t, catalogue, minute, key);
+        return take_cancelling(t, minute, key);
     }
     let life = lives[Lent::DURATIONS * entry.duration_type() as usize + report.duration as usize];
     // The checks leave the clock nothing to refuse.
     let expiry = minute.expiry(lto, life);
     match expiry {
-        Expiry::At(end) => {
-            take_ordinary(t, catalogue, last, minute, report, key, entry.class(), end)
-        }
+        Expiry::At(end) => take_ordinary(t, last, minute, report, key, end),
         Expiry::Refused(n) => refused(last, n),
     }
 }
 
 // A cancelling message frees the expired and the matching records.
-fn take_cancelling(t: &mut [u8], catalogue: &[u16], minute: Utc, key: Key) -> Step
+fn take_cancelling(t: &mut [u8], minute: Utc, key: Key) -> Step
     requires { ⌜ length (now t) % recordSize ≡ 0 ⌝ }
-    ensures { λ s. ⌜ s ≡ step (minute .0) (Freed (expiredIn (minute .0) (now (t .entry))) (matchedIn (minute .0) (keyMatches (now (catalogue .entry)) key) (now (t .entry)))) ⌝ }
-    ensures { λ _. ⌜ now (t .exit) ≡ afterMatching (minute .0) (keyMatches (now (catalogue .entry)) key) (now (t .entry)) ⌝ }
+    ensures { λ s. ⌜ s ≡ step (minute .0) (Freed (expiredIn (minute .0) (now (t .entry))) (matchedIn (minute .0) (matching key) (now (t .entry)))) ⌝ }
+    ensures { λ _. ⌜ now (t .exit) ≡ afterMatching (minute .0) (matching key) (now (t .entry)) ⌝ }
 {
-    let freed = sweep_gone(t, catalogue, minute, key);
+    let freed = sweep_gone(t, minute, key);
     Step {
         last: minute,
         answer: Answer::Freed {
@@ -118,25 +116,24 @@ fn take_cancelling(t: &mut [u8], catalogue: &[u16], minute: Utc, key: Key) -> St
 // An ordinary message is stored, if steps 1 and 2 leave a record free; else they freed none, and it is refused (14).
 fn take_ordinary(
     t: &mut [u8],
-    catalogue: &[u16],
     last: Utc,
     minute: Utc,
     report: Report,
     key: Key,
-    class: u8,
     expiry: Utc,
 ) -> Step
-    requires { ⌜ (length (now t) % recordSize ≡ 0) × (canMake report (key .service) class (expiry .0) ≡ true) ⌝ }
-    ensures { λ s. ⌜ s ≡ cond (noRoom (minute .0) (keyMatches (now (catalogue .entry)) key) (now (t .entry))) (step (last .0) (Refused 14)) (step (minute .0) (Stored (expiredIn (minute .0) (now (t .entry))) (matchedIn (minute .0) (keyMatches (now (catalogue .entry)) key) (now (t .entry))) (placeIn (minute .0) (keyMatches (now (catalogue .entry)) key) (now (t .entry))))) ⌝ }
-    ensures { λ _. ⌜ now (t .exit) ≡ cond (noRoom (minute .0) (keyMatches (now (catalogue .entry)) key) (now (t .entry))) (now (t .entry)) (afterStoring (minute .0) (keyMatches (now (catalogue .entry)) key) (recordOf report (key .service) class (expiry .0)) (now (t .entry))) ⌝ }
+    requires { ⌜ (length (now t) % recordSize ≡ 0) × (canMake report (key .service) (key .classes .0) (expiry .0) ≡ true) ⌝ }
+    ensures { λ s. ⌜ s ≡ cond (noRoom (minute .0) (matching key) (now (t .entry))) (step (last .0) (Refused 14)) (step (minute .0) (Stored (expiredIn (minute .0) (now (t .entry))) (matchedIn (minute .0) (matching key) (now (t .entry))) (placeIn (minute .0) (matching key) (now (t .entry))))) ⌝ }
+    ensures { λ _. ⌜ now (t .exit) ≡ cond (noRoom (minute .0) (matching key) (now (t .entry))) (now (t .entry)) (afterStoring (minute .0) (matching key) (recordOf report (key .service) (key .classes .0) (expiry .0)) (now (t .entry))) ⌝ }
 {
-    let gone = sweep_gone(t, catalogue, minute, key);
+    let gone = sweep_gone(t, minute, key);
     let place = find_free(t);
     if t.len() / Record::SIZE <= place {
         return refused(last, 14);
     }
     let service = key.service;
-    put_at(t, place, report, service, class, expiry);
+    let classes = key.classes;
+    put_at(t, place, report, service, classes, expiry);
     Step {
         last: minute,
         answer: Answer::Stored {
@@ -148,11 +145,11 @@ fn take_ordinary(
 }
 
 // Stores the record of a report in a place.
-fn put_at(t: &mut [u8], place: usize, report: Report, service: Service, class: u8, expiry: Utc)
-    requires { ⌜ (length (now t) % recordSize ≡ 0) × (place < length (now t) / recordSize) × (canMake report service class (expiry .0) ≡ true) ⌝ }
-    ensures { λ _. ⌜ now (t .exit) ≡ stored (now (t .entry)) place (recordOf report service class (expiry .0)) ⌝ }
+fn put_at(t: &mut [u8], place: usize, report: Report, service: Service, classes: Classes, expiry: Utc)
+    requires { ⌜ (length (now t) % recordSize ≡ 0) × (place < length (now t) / recordSize) × (canMake report service (classes .0) (expiry .0) ≡ true) ⌝ }
+    ensures { λ _. ⌜ now (t .exit) ≡ stored (now (t .entry)) place (recordOf report service (classes .0) (expiry .0)) ⌝ }
 {
     let a = place * Record::SIZE;
     let e = a + Record::SIZE;
-    put(&mut t[a..e], report, service, class, expiry);
+    put(&mut t[a..e], report, service, classes, expiry);
 }

@@ -9,7 +9,7 @@ use Rattle.table.proofs.take.take_cancelling.Tie as tie
 
 returns : tie.Need-returns
 returns c =
-    let a = c .before .before .before .before .before .before .args in
+    let a = c .before .before .before .before .before .args in
     let s = c .before .before .sweep-gone .ensures in
     (ap (λ (f : freed.Freed). step (a .minute .0) (Freed (f .expired) (f .matched))) (s .0), s .1)
 

@@ -2,7 +2,7 @@
 use Prim.Native.Nat.{ℕ, _+_, _*_}
 use native.Mathlib.Omega.{arith}
 use mathlib.Core.Path.{_≡_, sym, ap, ap₂, _∙_}
-use mathlib.Core.Bool.{Bool, cond}
+use mathlib.Core.Bool.{cond}
 use mathlib.Core.List.{List}
 use lib.IntN.{ℤ}
 use lib.ListN.{getD}
@@ -16,32 +16,27 @@ use Rattle.clock.specs.Answers.{minuteOf}
 use Rattle.location.specs.declared.Location.{Location}
 use Rattle.record.specs.declared.Key.{Key}
 use Rattle.record.specs.Locations.{locationOf}
-use Rattle.record.specs.Classes.{setOf}
+use Rattle.record.specs.Matching.{matching}
 use Rattle.record_report.specs.Made.{recordOf, canMake}
-use Rattle.lent.specs.Catalogue.{classOf, kindOf, typeOf}
+use Rattle.lent.specs.Catalogue.{kindOf, typeOf}
 use Rattle.lent.proofs.Lents.{lent-whole}
-use Rattle.matching.specs.Classes.{classesOf}
-use Rattle.matching.specs.Matching.{matching, keyMatches}
-use Rattle.matching.proofs.Matches.{key-matches}
+use Rattle.classes.specs.Keys.{keyOf}
 use Rattle.checks.specs.declared.Arrival.{Arrival}
 use Rattle.checks.specs.Events.{entryFor, kindFor, expiryFor}
 use Rattle.checks.proofs.Checked.{Checked, checked, life-inside, expiry-is, kinds}
 use Rattle.table.specs.declared.Answer.the-variants.{Freed, Stored, Refused}
 use Rattle.table.specs.Steps.{step, expiredIn, afterMatching, matchedIn, placeIn, noRoom, afterStoring}
+use Rattle.table.specs.Take.{setFor}
 use Rattle.table.proofs.Storable.{can-make}
 use Rattle.table.proofs.Takes.{null-way, cancelling-way, ordinary-way}
 use borrow.Author.Needs.{needs}
 use Rattle.table.proofs.take.take_checked.Statement.{statement}
 use Rattle.table.proofs.take.take_checked.Tie as tie
 
--- what a report is matched by, with its location and its classes
-abbrev keyWith : Arrival → Location → ℕ → Key
-keyWith v location classes = record { service = v .service; location = location; direction = v .report .head .direction; classes = record { 0 = classes } }
-
--- matching by that key is matching the report
-same-match : (c : List ℕ) (v : Arrival) (location : Location) (classes : ℕ) → location ≡ locationOf (v .service) (v .report) → classes ≡ setOf (classesOf c (v .report))
-    → keyMatches c (keyWith v location classes) ≡ matching c (v .service) (v .report)
-same-match c v location classes e f = ap₂ (λ (l : Location) (n : ℕ). keyMatches c (keyWith v l n)) e f ∙ key-matches c (v .service) (v .report)
+-- the key is that of the report
+same-key : (c : List ℕ) (v : Arrival) (location : Location) (classes : ℕ) → location ≡ locationOf (v .service) (v .report) → classes ≡ setFor c (v .report)
+    → record { service = v .service; location = location; direction = v .report .head .direction; classes = record { 0 = classes } } ≡ keyOf c (v .service) (v .report)
+same-key c v location classes e f = λ i. record { service = v .service; location = e i; direction = v .report .head .direction; classes = record { 0 = f i } }
 
 whole : tie.Need-free-expired-requires
 whole c κs =
@@ -78,9 +73,9 @@ returns-2 c =
     let is-2 = sym (at .kind .ensures ∙ ap kindOf (at .before .of-event .ensures)) ∙ at-if .if2 .taken in
     let way = cancelling-way t k (a .lives .now) (a .last .0) v (a .lto) (s .pre) (lent-whole (a .t .now) (a .catalogue .now) (a .lives .now) (checked (a .t .now) (a .catalogue .now) (a .lives .now) (a .last .0) (a .arrival) (a .lto) (s .pre) .lent)) is-2 in
     let f = c .before .before .take-cancelling .ensures in
-    let match = same-match k v _ _ (at-if .before .before .location-of .ensures) (at-if .before .of-report .ensures) in (
-      f .0 ∙ ap (λ (q : List ℕ → Bool). step m (Freed (expiredIn m t) (matchedIn m q t))) match ∙ way .0,
-      f .1 ∙ ap (λ (q : List ℕ → Bool). afterMatching m q t) match ∙ way .1,
+    let key = same-key k v _ _ (at-if .before .before .location-of .ensures) (at-if .before .of-report .ensures) in (
+      f .0 ∙ ap (λ (x : Key). step m (Freed (expiredIn m t) (matchedIn m (matching x) t))) key ∙ way .0,
+      f .1 ∙ ap (λ (x : Key). afterMatching m (matching x) t) key ∙ way .1,
     )
 
 life : tie.Need-shared-slice-read-life
@@ -107,7 +102,7 @@ is-ordinary t k l last v lto n ok e not-3 not-2 = omega (arith, kinds t k l last
 
 take-ordinary-requires : tie.Need-take-ordinary-requires
 take-ordinary-requires c κs =
-    let at-clock = c .before .before .before .before .before in
+    let at-clock = c .before .before .before .before in
     let at-type = at-clock .before .before .before in
     let at = at-type .before .before .before .before .before .before .before in
     let s = at .before .before .before .before .before .before .before in
@@ -120,13 +115,12 @@ take-ordinary-requires c κs =
     let ok = checked t k l (a .last .0) v (a .lto) (s .pre) in
     let is-1 = is-ordinary t k l (a .last .0) v (a .lto) _ ok (at-type .before .before .before .before .before .before .kind .ensures ∙ ap kindOf entry) (at-type .before .before .before .before .before .if1 .left) (at-type .before .if2 .left) in
     let told = clock-told t k l (a .last .0) v (a .lto) _ _ _ ok (toZ-ofZ w8 (a .lto) (s .fits .lto)) (at-type .duration-type .ensures ∙ ap typeOf entry) (at-clock .expiry .ensures) in
-    let end = ap minuteOf (sym (c .before .before .before .expiry2 .given .1) ∙ told) in
-    let class = c .class .ensures ∙ ap classOf entry in
-    (lent-whole t k l (ok .lent), ap₂ (canMake (v .report) (v .service)) class end ∙ can-make t k l (a .last .0) v (a .lto) ok is-1)
+    let end = ap minuteOf (sym (c .before .before .expiry2 .given .1) ∙ told) in
+    (lent-whole t k l (ok .lent), ap₂ (canMake (v .report) (v .service)) (at-type .before .before .of-report .ensures) end ∙ can-make t k l (a .last .0) v (a .lto) ok is-1)
 
 returns-3 : tie.Need-returns-3
 returns-3 c =
-    let at-clock = c .before .before .before .before .before .before .before .before in
+    let at-clock = c .before .before .before .before .before .before .before in
     let at-type = at-clock .before .before .before in
     let at = at-type .before .before .before .before .before .before .before in
     let s = at .before .before .before .before .before .before .before in
@@ -140,14 +134,13 @@ returns-3 c =
     let ok = checked t k l (a .last .0) v (a .lto) (s .pre) in
     let is-1 = is-ordinary t k l (a .last .0) v (a .lto) _ ok (at-type .before .before .before .before .before .before .kind .ensures ∙ ap kindOf entry) (at-type .before .before .before .before .before .if1 .left) (at-type .before .if2 .left) in
     let told = clock-told t k l (a .last .0) v (a .lto) _ _ _ ok (toZ-ofZ w8 (a .lto) (s .fits .lto)) (at-type .duration-type .ensures ∙ ap typeOf entry) (at-clock .expiry .ensures) in
-    let end = ap minuteOf (sym (c .before .before .before .before .before .before .expiry2 .given .1) ∙ told) in
-    let class = c .before .before .before .class .ensures ∙ ap classOf entry in
+    let end = ap minuteOf (sym (c .before .before .before .before .before .expiry2 .given .1) ∙ told) in
     let way = ordinary-way t k l (a .last .0) v (a .lto) (s .pre) (lent-whole t k l (ok .lent)) is-1 in
     let f = c .before .before .take-ordinary .ensures in
-    let match = same-match k v _ _ (at-type .before .before .before .location-of .ensures) (at-type .before .before .of-report .ensures) in
-    let made = ap₂ (recordOf (v .report) (v .service)) class end in (
-      f .0 ∙ ap (λ (q : List ℕ → Bool). cond (noRoom m q t) (step (a .last .0) (Refused 14)) (step m (Stored (expiredIn m t) (matchedIn m q t) (placeIn m q t)))) match ∙ way .0,
-      f .1 ∙ ap₂ (λ (q : List ℕ → Bool) (r : List ℕ). cond (noRoom m q t) t (afterStoring m q r t)) match made ∙ way .1,
+    let key = same-key k v _ _ (at-type .before .before .before .location-of .ensures) (at-type .before .before .of-report .ensures) in
+    let made = ap₂ (recordOf (v .report) (v .service)) (at-type .before .before .of-report .ensures) end in (
+      f .0 ∙ ap (λ (x : Key). cond (noRoom m (matching x) t) (step (a .last .0) (Refused 14)) (step m (Stored (expiredIn m t) (matchedIn m (matching x) t) (placeIn m (matching x) t)))) key ∙ way .0,
+      f .1 ∙ ap₂ (λ (x : Key) (r : List ℕ). cond (noRoom m (matching x) t) t (afterStoring m (matching x) r t)) key made ∙ way .1,
     )
 
 returns-4 : tie.Need-returns-4
@@ -182,7 +175,6 @@ take-checked-spec =
     (search needs)
     (search needs)
     life
-    (search needs)
     (search needs)
     (search needs)
     take-ordinary-requires

@@ -1,0 +1,2 @@
+pub mod EventClasses
+pub mod ReportSets

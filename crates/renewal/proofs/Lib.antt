@@ -1,0 +1,2 @@
+pub mod RecordClasses
+pub mod Renewals
