@@ -1029,10 +1029,11 @@ static void table(void) {
     const uint8_t records[PLACES * ALERTC_RECORD_BYTES] = {
         1,    1,    37, 17, 0x39, 0x30, 101,  0, 1, 2, 0, 3, 160,  0,    0, 0, /* to the expiry */
         0,    0,    0,  0,  0,    0,    0,    0, 0, 0, 0, 0, 0,    0,          /* content */
-        1,    1,    1,  17, /* class, country, the location's country and LTN */
+        0,    1,    1,  17, /* byte 30, country, the location's country and LTN */
+        0x02, 0,    0,  0,  0,    0,    0,    0,                               /* class 1 */
         1,    2,    37, 17, 0xF4, 0x01, 0x91, 1, 0, 1, 0, 2, 0x64, 0x05, 0, 0, /* the other one */
         0x35, 0x02, 0,  0,  0,    0,    0,    0, 0, 0, 0, 0, 0,    0, /* items (3,10), (0,2) */
-        5,    1,    1,  17};
+        0,    1,    1,  17, 0x20, 0,    0,    0, 0, 0, 0, 0};         /* class 5 */
     struct alertc_table_answer t =
         alertc_table_take(bytes, sizeof bytes, catalogue, ALERTC_EVENTS, lives, ALERTC_LIVES,
                           &clock, report_101(), service, 100, 0);
@@ -1046,6 +1047,12 @@ static void table(void) {
                           &clock, report_401(), service, 100, 2);
     SAME(t.stored, 1);
     SAME(t.place, 1);
+    SAME_BYTES(bytes, records, sizeof bytes);
+
+    /* The sets are what this catalogue gives. */
+    struct alertc_renewal n = alertc_table_renew(bytes, sizeof bytes, catalogue, ALERTC_EVENTS);
+    SAME(n.refusal, ALERTC_ACCEPTED);
+    SAME(n.used, 2);
     SAME_BYTES(bytes, records, sizeof bytes);
 
     struct alertc_table_reading r = alertc_table_read(bytes, sizeof bytes, 1);
@@ -1226,6 +1233,42 @@ static void take(int line, struct alertc_report report, uint32_t minute,
     }
 }
 
+#define RENEWED(used) renew(__LINE__, used, ALERTC_ACCEPTED)
+#define NOT_RENEWED() renew(__LINE__, 0, ALERTC_REFUSED_MALFORMED)
+
+/*
+ * A renewal with the catalogue has this answer. It changes the sets of used records alone, and a
+ * refused one nothing.
+ */
+static void renew(int line, size_t used, uint8_t refusal) {
+    static uint16_t catalogue_before[ALERTC_EVENTS];
+    uint8_t table_before[sizeof small_table];
+    memcpy(table_before, small_table, sizeof table_before);
+    memcpy(catalogue_before, small_catalogue, sizeof catalogue_before);
+    struct alertc_renewal n =
+        alertc_table_renew(small_table, sizeof small_table, small_catalogue, ALERTC_EVENTS);
+    same(line, "used", n.used, used);
+    same(line, "refusal", n.refusal, refusal);
+    for (size_t at = 0; at < sizeof small_table; at += ALERTC_RECORD_BYTES) {
+        int may_change = refusal == ALERTC_ACCEPTED && table_before[at] == 1;
+        same_bytes(line, "record", small_table + at, table_before + at,
+                   may_change ? 34 : ALERTC_RECORD_BYTES);
+    }
+    same(line, "catalogue", memcmp(small_catalogue, catalogue_before, sizeof catalogue_before) == 0,
+         1);
+}
+
+#define SAME_SET(place, set) same_set(__LINE__, place, set)
+
+/* The record at this place keeps this set, class c as bit c, and its byte 30 is 0. */
+static void same_set(int line, size_t place, uint64_t set) {
+    const uint8_t *record = small_table + place * ALERTC_RECORD_BYTES;
+    same(line, "byte 30", record[30], 0);
+    for (size_t i = 0; i < 8; i++) {
+        same(line, "set", record[34 + i], set >> 8 * i & 0xFF);
+    }
+}
+
 #define KEPT(place, report) kept(__LINE__, place, report)
 
 /* The record at this place reads back as this report of the service, taken at minute 100. */
@@ -1248,8 +1291,9 @@ static void border(void) {
         0,    1,    0,    2,    /* direction, extent, diversion, duration */
         160,  0,    0,    0,    /* expiry */
         0x35, 0x02, 0,    0,    0, 0, 0, 0, 0, 0, 0, 0, 0, 0, /* content */
-        9,    13,                                             /* class, country */
-        13,   1};                                             /* the location's country and LTN */
+        0,    13,                                             /* byte 30, country */
+        13,   1,                                              /* the location's country and LTN */
+        0,    0x02, 0,    0,    0, 0, 0, 0};                  /* class 9 */
     const size_t at_home = ALERTC_RECORD_BYTES, abroad = 2 * ALERTC_RECORD_BYTES;
     uint8_t expected[sizeof small_table] = {0};
     small_start();
@@ -1376,7 +1420,10 @@ static struct alertc_report with_event(struct alertc_report r, uint16_t event) {
 
 #define MEETS(record, report, answer) meets(__LINE__, record, report, answer)
 
-/* In a table with this record alone a report has this answer, and does what it says. */
+/*
+ * In a table with this record alone a report has this answer, and does what it says. Renewing with
+ * the catalogue then changes nothing.
+ */
 static void meets(int line, struct alertc_report record, struct alertc_report report,
                   struct alertc_table_answer answer) {
     uint8_t expected[sizeof small_table] = {0};
@@ -1392,17 +1439,20 @@ static void meets(int line, struct alertc_report record, struct alertc_report re
         memcpy(expected + stored_at, small_table + stored_at, ALERTC_RECORD_BYTES);
     }
     same_bytes(line, "table", small_table, expected, sizeof expected);
+    renew(line, (size_t)(answer.matched == 0) + answer.stored, ALERTC_ACCEPTED);
+    same_bytes(line, "table", small_table, expected, sizeof expected);
 }
 
-/* The rules' record of 201 with (9,641), (0,2) at 500. */
+/* The rules' record of 201 with (9,641), (0,2) at 500, taken at minute 100. */
 static const uint8_t accident[ALERTC_RECORD_BYTES] = {
     1,    2,    3,    17,                               /* used, groups, SID, LTN */
     0xF4, 0x01, 0xC9, 0,                                /* location, event */
     0,    1,    0,    2,                                /* direction, extent, diversion, duration */
     160,  0,    0,    0,                                /* expiry */
     0x95, 0x02, 0x08, 0,  0, 0, 0, 0, 0, 0, 0, 0, 0, 0, /* content */
-    5,    13,                                           /* class, country */
-    13,   17};                                          /* the location's country and LTN */
+    0,    13,                                           /* byte 30, country */
+    13,   17,                                           /* the location's country and LTN */
+    0x20, 0x02, 0,    0,  0, 0, 0, 0};                  /* classes 5 and 9 */
 
 /* At minute 100, the table is full of that record. */
 static void all_accidents(void) {
@@ -1442,39 +1492,94 @@ static void refused_when_full(int line, int malformed) {
     }
 }
 
-#define NOT_TAKEN(record, reading) not_taken(__LINE__, record, reading)
+#define MALFORMED(record) malformed(__LINE__, record)
 
-/*
- * With this record among the others of a full table every take is refused (10): of each kind, where
- * all records would expire, and where there are other reasons. The record is read, or refused, as
- * given, and expires.
- */
-static void not_taken(int line, const uint8_t *record, uint8_t reading) {
-    const uint8_t empty[sizeof small_table] = {0};
-    const struct alertc_table_answer malformed = refusing(ALERTC_REFUSED_MALFORMED);
+/* With this record among the others of a full table every call is refused (10). */
+static void malformed(int line, const uint8_t *record) {
+    const struct alertc_table_answer refused_10 = refusing(ALERTC_REFUSED_MALFORMED);
+    const uint32_t minutes[] = {99, 100, 160, ALERTC_LARGEST_MINUTE + 1};
     for (size_t place = 0; place < 3; place++) {
         uint8_t *at = small_table + place * ALERTC_RECORD_BYTES;
+        uint8_t before[sizeof small_table];
         all_accidents();
         memcpy(at, record, ALERTC_RECORD_BYTES);
+        memcpy(before, small_table, sizeof before);
         refused_when_full(line, 1);
-        take(line, report_of(201), 100, malformed);
-        take(line, report_of(2028), 100, malformed);
-        take(line, report_of(2047), 100, malformed);
-        take(line, report_of(201), 160, malformed);
+        take(line, report_of(201), 100, refused_10);
+        take(line, report_of(2028), 100, refused_10);
+        take(line, report_of(2047), 100, refused_10);
+        take(line, report_of(201), 160, refused_10);
+        renew(line, 0, ALERTC_REFUSED_MALFORMED);
+        for (size_t i = 0; i < sizeof minutes / sizeof minutes[0]; i++) {
+            struct alertc_table_answer t =
+                alertc_table_expire(small_table, sizeof small_table, &small_clock, minutes[i]);
+            same(line, "refusal", t.refusal, ALERTC_REFUSED_MALFORMED);
+            same(line, "answer", t.expired | t.matched | t.place | t.stored, 0);
+            same(line, "clock", small_clock, 100);
+        }
+        for (size_t i = 0; i <= 3; i++) {
+            struct alertc_table_reading r = alertc_table_read(small_table, sizeof small_table, i);
+            same(line, "refusal", r.refusal, ALERTC_REFUSED_MALFORMED);
+            same(line, "used", r.used, 0);
+        }
+        same(line, "refusal", alertc_record_read(at, ALERTC_RECORD_BYTES).refusal,
+             ALERTC_REFUSED_MALFORMED);
+        same_bytes(line, "table", small_table, before, sizeof before);
+    }
+}
+
+#define TAKEN_NOT_RENEWED(record, reading) taken_not_renewed(__LINE__, record, reading)
+
+/*
+ * With this record among the others of a full table a renewal is refused (10), until it is gone. A
+ * take is not: it has its other refusals, and matches by the set, which is that of the others. The
+ * record is read, or refused, as given, and expires.
+ */
+static void taken_not_renewed(int line, const uint8_t *record, uint8_t reading) {
+    const int elsewhere = record[4] != accident[4];
+    for (size_t place = 0; place < 3; place++) {
+        uint8_t *at = small_table + place * ALERTC_RECORD_BYTES;
+        uint8_t before[sizeof small_table], expected[sizeof small_table] = {0};
+        all_accidents();
+        memcpy(at, record, ALERTC_RECORD_BYTES);
+        memcpy(before, small_table, sizeof before);
+        renew(line, 0, ALERTC_REFUSED_MALFORMED);
+        refused_when_full(line, 0);
+        take(line, report_of(2047), 100, freeing(0, 0));
+        take(line, report_of(662), 100, freeing(0, 0));
         same(line, "refusal", alertc_record_read(at, ALERTC_RECORD_BYTES).refusal, reading);
         same(line, "refusal", alertc_table_read(small_table, sizeof small_table, place).refusal,
              reading);
-
         struct alertc_table_answer t =
             alertc_table_expire(small_table, sizeof small_table, &small_clock, 159);
         same(line, "refusal", t.refusal, ALERTC_ACCEPTED);
         same(line, "expired", t.expired, 0);
-        same_bytes(line, "record", at, record, ALERTC_RECORD_BYTES);
+        same_bytes(line, "table", small_table, before, sizeof before);
         t = alertc_table_expire(small_table, sizeof small_table, &small_clock, 160);
         same(line, "refusal", t.refusal, ALERTC_ACCEPTED);
         same(line, "expired", t.expired, 3);
-        same_bytes(line, "table", small_table, empty, sizeof empty);
-        take(line, report_of(201), 160, storing(0, 0, 0));
+        same_bytes(line, "table", small_table, expected, sizeof expected);
+        renew(line, 0, ALERTC_ACCEPTED);
+
+        /* At the same location it matches, by its set. */
+        all_accidents();
+        memcpy(at, record, ALERTC_RECORD_BYTES);
+        take(line, report_of(641), 100,
+             storing(0, elsewhere ? 2 : 3, elsewhere && place == 0 ? 1 : 0));
+        all_accidents();
+        memcpy(at, record, ALERTC_RECORD_BYTES);
+        take(line, report_of(2028), 100, freeing(0, elsewhere ? 2 : 3));
+        if (elsewhere) {
+            memcpy(expected + place * ALERTC_RECORD_BYTES, record, ALERTC_RECORD_BYTES);
+        }
+        same_bytes(line, "table", small_table, expected, sizeof expected);
+        renew(line, 0, elsewhere ? ALERTC_REFUSED_MALFORMED : ALERTC_ACCEPTED);
+
+        /* A take frees it when its time is over. */
+        all_accidents();
+        memcpy(at, record, ALERTC_RECORD_BYTES);
+        take(line, report_of(201), 160, storing(3, 0, 0));
+        renew(line, 1, ALERTC_ACCEPTED);
     }
 }
 
@@ -1569,8 +1674,10 @@ static void classes(void) {
     small_table[ALERTC_RECORD_BYTES + 12] = 161;
     TAKE(report_of(2028), 160, freeing(2, 1));
 
-    /* Service, location and direction are compared as well, and nothing else. */
-    const size_t in_common[] = {2, 3, 4, 5, 8, 31, 32, 33}, beside[] = {1, 9, 10, 11, 12, 30};
+    /* Service, location and direction are compared as well, and nothing else: not the event, and
+     * not the content. */
+    const size_t in_common[] = {2, 3, 4, 5, 8, 31, 32, 33},
+                 beside[] = {1, 6, 7, 9, 10, 11, 12, 16, 17, 18};
     uint8_t record[ALERTC_RECORD_BYTES];
     for (size_t i = 0; i < sizeof in_common / sizeof in_common[0]; i++) {
         memcpy(record, accident, sizeof record);
@@ -1585,66 +1692,327 @@ static void classes(void) {
         alone(record);
         TAKE(report_of(2028), 100, freeing(0, 1));
     }
+}
 
-    /* The class of a record's first event is the catalogue's too, and not byte 30. */
-    memcpy(record, accident, sizeof record);
-    record[1] = 1;
-    memset(record + 16, 0, 3);
-    record[30] = 9;
-    alone(record);
-    TAKE(report_of(2028), 100, freeing(0, 0));
-    TAKE(report_of(201), 100, storing(0, 1, 0));
-    SAME(small_table[30], 5);
-    record[6] = 0xEC; /* 2028: cancelling events are not stored, but have a class */
-    record[7] = 0x07;
-    record[30] = 5;
-    alone(record);
-    TAKE(report_of(641), 100, storing(0, 1, 0));
+/* A record keeps the set of its report's classes, and a take matches by it. */
+static void sets(void) {
+    const struct alertc_report lane_closed = with_event(report_of(201), 641);
+    uint8_t record[ALERTC_RECORD_BYTES];
+    SAME(ALERTC_RECORD_BYTES, 42);
 
-    /* It is from 1 to 63 for all calls. */
-    const uint8_t no_class[] = {0, 64};
-    for (size_t i = 0; i < 2; i++) {
-        memcpy(record, accident, sizeof record);
-        record[30] = no_class[i];
-        alone(record);
-        TAKE(report_of(2028), 100, refusing(ALERTC_REFUSED_MALFORMED));
-        SAME(alertc_table_expire(small_table, sizeof small_table, &small_clock, 100).refusal,
-             ALERTC_REFUSED_MALFORMED);
-        SAME(alertc_record_read(record, sizeof record).refusal, ALERTC_REFUSED_MALFORMED);
+    /* The worked record; the highest class alone. */
+    small_start();
+    TAKE(lane_closed, 100, storing(0, 0, 0));
+    SAME_BYTES(small_table, accident, sizeof accident);
+    const uint8_t class_63[8] = {0, 0, 0, 0, 0, 0, 0, 0x80};
+    TAKE(report_of(663), 100, storing(0, 0, 1));
+    SAME(small_table[ALERTC_RECORD_BYTES + 30], 0);
+    SAME_BYTES(small_table + ALERTC_RECORD_BYTES + 34, class_63, sizeof class_63);
+
+    /* Each class alone, as that of the first event and of an additional one. */
+    for (uint8_t update_class = 1; update_class <= 63; update_class++) {
+        const uint64_t bit = UINT64_C(1) << update_class;
+        small_start();
+        small_catalogue[300] = (uint16_t)ALERTC_CATALOGUE_ENTRY(update_class, 1, 0);
+        small_catalogue[299] = (uint16_t)ALERTC_CATALOGUE_ENTRY(update_class, 2, 1);
+        TAKE(report_of(300), 100, storing(0, 0, 0));
+        SAME_SET(0, bit);
+        TAKE(with_event(report_of(201), 300), 100, storing(0, 1, 0));
+        SAME_SET(0, bit | UINT64_C(0x20));
+        TAKE(with_event(report_of(663), 299), 100, storing(0, 1, 0));
+        SAME_SET(0, bit | UINT64_C(1) << 63);
+        RENEWED(1);
+        SAME_SET(0, bit | UINT64_C(1) << 63);
+        TAKE(report_of(299), 100, freeing(0, 1));
     }
 
-    /* With another catalogue stored reports have other classes, or are refused. */
-    alone(accident);
-    small_catalogue[641] = ALERTC_CATALOGUE_ENTRY(10, 1, 0);
-    TAKE(report_of(2028), 100, freeing(0, 0));
-    small_catalogue[201] = 0;
-    TAKE(report_of(641), 100, refusing(ALERTC_REFUSED_MALFORMED));
-    small_catalogue[201] = ALERTC_CATALOGUE_ENTRY(0, 3, 0);
-    TAKE(report_of(641), 100, refusing(ALERTC_REFUSED_MALFORMED));
-    small_catalogue[201] = ALERTC_CATALOGUE_ENTRY(7, 2, 0);
-    TAKE(report_of(641), 100, storing(0, 1, 0));
+    /* A class of several events; additional events without a class, which are not class 0; a value
+     * of another label; a foreign road. */
+    struct alertc_report label_10 = lane_closed, abroad = lane_closed;
+    label_10.items[0].label = 10;
+    abroad.location = 0xFF41;
+    abroad.real_location = 500;
+    small_start();
+    TAKE(with_event(report_of(641), 2028), 100, storing(0, 0, 0));
+    SAME_SET(0, 0x200);
+    TAKE(with_event(with_event(report_of(641), 2047), 1000), 100, storing(0, 1, 0));
+    SAME_SET(0, 0x200);
+    TAKE(label_10, 100, storing(0, 0, 1));
+    SAME_SET(1, 0x20);
+    TAKE(abroad, 100, storing(0, 0, 2));
+    SAME_SET(2, 0x220);
 
-    /* Used records that no take passes, beside others that it would free: content that ends within
-     * an item, after an event that matches and without one; label 15; events 300 and 2047. */
+    /* As many events as there can be: classes 5, 1, 8, 15, 16, 32, 62 and 63. */
+    const uint8_t added[] = {1, 8, 15, 16, 32, 62, 63};
+    const uint8_t eight_classes[8] = {0x22, 0x81, 0x01, 0, 0x01, 0, 0, 0xC0};
+    struct alertc_report most = report_of(201);
+    small_start();
+    for (uint16_t i = 0; i < 7; i++) {
+        small_catalogue[301 + i] = (uint16_t)ALERTC_CATALOGUE_ENTRY(added[i], 1, 0);
+        most = with_event(most, (uint16_t)(301 + i));
+    }
+    TAKE(most, 100, storing(0, 0, 0));
+    SAME(small_table[1], 5);
+    SAME_BYTES(small_table + 34, eight_classes, sizeof eight_classes);
+    memcpy(record, small_table, sizeof record);
+    for (uint8_t update_class = 1; update_class <= 63; update_class++) {
+        const int in_set = eight_classes[update_class / 8] >> update_class % 8 & 1;
+        alone(record);
+        small_catalogue[300] = (uint16_t)ALERTC_CATALOGUE_ENTRY(update_class, 2, 0);
+        TAKE(report_of(300), 100, freeing(0, (size_t)in_set));
+    }
+
+    /* Whatever the events, the set is compared: class 10; all classes. */
+    memcpy(record, accident, sizeof record);
+    record[34] = 0;
+    record[35] = 0x04;
+    alone(record);
+    small_catalogue[300] = ALERTC_CATALOGUE_ENTRY(10, 2, 0);
+    TAKE(report_of(2028), 100, freeing(0, 0));
+    TAKE(report_of(201), 100, storing(0, 0, 1));
+    TAKE(report_of(300), 100, freeing(0, 1));
+    memset(record + 34, 0xFF, 8);
+    record[34] = 0xFE;
+    alone(record);
+    TAKE(report_of(2047), 100, freeing(0, 0));
+    SAME_BYTES(small_table, record, sizeof record);
+    SAME_REPORT(alertc_table_read(small_table, sizeof small_table, 0).report, lane_closed);
+    TAKE(report_of(662), 100, freeing(0, 1));
+
+    /* Malformed: no class, class 0, class 0 among others, a byte 30 that is not 0, a record with
+     * the class of before; of free records, byte 30 and the first and the last bit of the set. */
+    memcpy(record, accident, sizeof record);
+    record[34] = record[35] = 0;
+    MALFORMED(record);
+    record[34] = 0x01;
+    MALFORMED(record);
+    record[34] = 0x21;
+    record[35] = 0x02;
+    MALFORMED(record);
+    const uint8_t not_zero[] = {1, 5, 9, 63, 64, 255};
+    for (size_t i = 0; i < sizeof not_zero; i++) {
+        memcpy(record, accident, sizeof record);
+        record[30] = not_zero[i];
+        MALFORMED(record);
+    }
+    record[30] = 5;
+    record[34] = record[35] = 0;
+    MALFORMED(record);
+    memset(record, 0, sizeof record);
+    record[30] = 9;
+    MALFORMED(record);
+    record[30] = 0;
+    record[34] = 0x01;
+    MALFORMED(record);
+    record[34] = 0;
+    record[41] = 0x80;
+    MALFORMED(record);
+
+    /* 21 records of 34 bytes, as before, are as long as 17. With one of them used they are refused,
+     * wherever it stands. */
+    uint8_t older[21 * 34];
+    SAME(sizeof older, 17 * ALERTC_RECORD_BYTES);
+    for (size_t place = 0; place < 21; place++) {
+        uint32_t older_clock = 100;
+        memset(older, 0, sizeof older);
+        memcpy(older + 34 * place, accident, 34);
+        older[34 * place + 30] = 5;
+        SAME(alertc_table_expire(older, sizeof older, &older_clock, 100).refusal,
+             ALERTC_REFUSED_MALFORMED);
+        SAME(alertc_table_renew(older, sizeof older, small_catalogue, ALERTC_EVENTS).refusal,
+             ALERTC_REFUSED_MALFORMED);
+        SAME(alertc_table_read(older, sizeof older, 16).refusal, ALERTC_REFUSED_MALFORMED);
+    }
+
+    /* A good set beside content that ends within an item, after an event that matches and without
+     * one; label 15; events 300 and 2047, which have no class. */
     all_accidents();
     refused_when_full(__LINE__, 0);
     memcpy(record, accident, sizeof record);
     record[19] = 0x10;
-    NOT_TAKEN(record, ALERTC_REFUSED_CONTENT);
+    TAKEN_NOT_RENEWED(record, ALERTC_REFUSED_CONTENT);
     record[16] = record[17] = record[18] = 0xEE;
     record[19] = 0xA0;
-    NOT_TAKEN(record, ALERTC_REFUSED_CONTENT);
+    TAKEN_NOT_RENEWED(record, ALERTC_REFUSED_CONTENT);
     record[19] = 0xF0;
-    NOT_TAKEN(record, ALERTC_REFUSED_LABEL_15);
+    TAKEN_NOT_RENEWED(record, ALERTC_REFUSED_LABEL_15);
     memcpy(record, accident, sizeof record);
     record[6] = 0x2C;
     record[7] = 0x01;
-    NOT_TAKEN(record, ALERTC_ACCEPTED);
+    TAKEN_NOT_RENEWED(record, ALERTC_ACCEPTED);
     record[6] = 0xFF;
     record[7] = 0x07;
-    NOT_TAKEN(record, ALERTC_ACCEPTED);
-    record[4] = 0xF5; /* elsewhere too */
-    NOT_TAKEN(record, ALERTC_ACCEPTED);
+    TAKEN_NOT_RENEWED(record, ALERTC_ACCEPTED);
+    record[4] = 0xF6; /* elsewhere too */
+    TAKEN_NOT_RENEWED(record, ALERTC_ACCEPTED);
+}
+
+/* All sets are worked out anew from a changed catalogue, or none is. */
+static void renewals(void) {
+    uint8_t record[ALERTC_RECORD_BYTES];
+
+    /* The worked record: with the catalogue of before, and with 641 in class 10. */
+    const uint8_t classes_5_10[8] = {0x20, 0x04, 0, 0, 0, 0, 0, 0};
+    alone(accident);
+    RENEWED(1);
+    SAME_BYTES(small_table, accident, sizeof accident);
+    small_catalogue[641] = ALERTC_CATALOGUE_ENTRY(10, 1, 0);
+    RENEWED(1);
+    SAME_BYTES(small_table + 34, classes_5_10, sizeof classes_5_10);
+    RENEWED(1);
+    SAME_BYTES(small_table + 34, classes_5_10, sizeof classes_5_10);
+    SAME_REPORT(alertc_table_read(small_table, sizeof small_table, 0).report,
+                with_event(report_of(201), 641));
+    TAKE(report_of(2028), 100, freeing(0, 0));
+    TAKE(report_of(641), 100, storing(0, 1, 0));
+    SAME_SET(0, 0x400);
+
+    /* Without a renewal a take matches by the classes of before. */
+    alone(accident);
+    small_catalogue[641] = ALERTC_CATALOGUE_ENTRY(10, 1, 0);
+    TAKE(report_of(641), 100, storing(0, 0, 1));
+    TAKE(report_of(2028), 100, freeing(0, 1));
+    SAME(alertc_table_read(small_table, sizeof small_table, 0).used, 0);
+    SAME_SET(1, 0x400);
+    RENEWED(1);
+    SAME_SET(1, 0x400);
+
+    /* A first event that loses its class, which a take does not test; an additional one. */
+    const uint16_t no_class[] = {0, ALERTC_CATALOGUE_ENTRY(0, 0, 1),
+                                 ALERTC_CATALOGUE_ENTRY(0, 3, 0), ALERTC_CATALOGUE_ENTRY(0, 3, 1)};
+    for (size_t i = 0; i < sizeof no_class / sizeof no_class[0]; i++) {
+        alone(accident);
+        small_catalogue[201] = no_class[i];
+        NOT_RENEWED();
+        SAME_BYTES(small_table, accident, sizeof accident);
+        TAKE(report_of(2028), 100, freeing(0, 1));
+        RENEWED(0);
+        alone(accident);
+        small_catalogue[641] = no_class[i];
+        RENEWED(1);
+        SAME_SET(0, 0x20);
+        TAKE(report_of(2028), 100, freeing(0, 0));
+    }
+
+    /* A first event that becomes cancelling; both events in class 63; any set before. */
+    const uint8_t class_63[8] = {0, 0, 0, 0, 0, 0, 0, 0x80};
+    alone(accident);
+    small_catalogue[201] = ALERTC_CATALOGUE_ENTRY(7, 2, 0);
+    RENEWED(1);
+    SAME_SET(0, 0x280);
+    small_catalogue[201] = small_catalogue[641] = ALERTC_CATALOGUE_ENTRY(63, 1, 1);
+    RENEWED(1);
+    SAME_BYTES(small_table + 34, class_63, sizeof class_63);
+    memcpy(record, accident, sizeof record);
+    memset(record + 34, 0xFF, 8);
+    record[34] = 0xFE;
+    alone(record);
+    RENEWED(1);
+    SAME_BYTES(small_table, accident, sizeof accident);
+
+    /* No record; a free one between two; records whose time is over; a foreign road's. */
+    small_start();
+    RENEWED(0);
+    TAKE(report_of(663), 100, storing(0, 0, 0));
+    memcpy(small_table + 2 * ALERTC_RECORD_BYTES, accident, sizeof accident);
+    small_catalogue[663] = ALERTC_CATALOGUE_ENTRY(1, 1, 0);
+    small_catalogue[641] = ALERTC_CATALOGUE_ENTRY(62, 1, 0);
+    RENEWED(2);
+    SAME_SET(0, 0x2);
+    SAME_SET(2, UINT64_C(0x4000000000000020));
+    all_accidents();
+    small_table[12] = small_table[2 * ALERTC_RECORD_BYTES + 12] = 1;
+    small_table[2 * ALERTC_RECORD_BYTES + 33] = 1;
+    small_catalogue[201] = ALERTC_CATALOGUE_ENTRY(32, 1, 0);
+    RENEWED(3);
+    for (size_t place = 0; place < 3; place++) {
+        SAME_SET(place, UINT64_C(0x100000200));
+    }
+
+    /* With 641 in class 10 each accident's set would change. Beside a record that is refused none
+     * does; without it, all do. */
+    uint8_t unfit[6][ALERTC_RECORD_BYTES];
+    for (size_t i = 0; i < 6; i++) {
+        memcpy(unfit[i], accident, sizeof accident);
+    }
+    unfit[0][19] = 0x10; /* content */
+    unfit[1][16] = 0xF5; /* label 15 */
+    unfit[2][6] = 0xC8;  /* event 200, which is unknown */
+    unfit[3][6] = 0xFF;  /* event 2047, which is null */
+    unfit[3][7] = 0x07;
+    unfit[4][35] = 0x00; /* set */
+    unfit[4][34] = 0x00;
+    unfit[5][0] = 2; /* mark */
+    for (size_t i = 0; i < 6; i++) {
+        for (size_t place = 0; place < 3; place++) {
+            uint8_t *at = small_table + place * ALERTC_RECORD_BYTES;
+            all_accidents();
+            small_catalogue[641] = ALERTC_CATALOGUE_ENTRY(10, 1, 0);
+            memcpy(at, unfit[i], ALERTC_RECORD_BYTES);
+            NOT_RENEWED();
+            memset(at, 0, ALERTC_RECORD_BYTES);
+            RENEWED(2);
+            SAME_SET((place + 1) % 3, 0x420);
+            SAME_SET((place + 2) % 3, 0x420);
+        }
+    }
+
+    /* The catalogue: a reserved bit, class 0 of kinds 1 and 2, a class of kinds 0 and 3; whether a
+     * record has the event or not, and whether there is a record or not. */
+    const uint16_t entries[] = {0x0245, 0x8045, 0x0040, 0x0080, 0x0005, 0x00C5};
+    const uint16_t events[] = {0, 201, 641, 1000, 2047};
+    for (size_t i = 0; i < sizeof entries / sizeof entries[0]; i++) {
+        for (size_t k = 0; k < sizeof events / sizeof events[0]; k++) {
+            all_accidents();
+            small_catalogue[events[k]] = entries[i];
+            NOT_RENEWED();
+            memset(small_table, 0, sizeof small_table);
+            NOT_RENEWED();
+        }
+    }
+
+    /* Sizes: tables of no record, of parts of records and of too many; catalogues. */
+    static uint8_t large[(ALERTC_RECORDS + 1) * ALERTC_RECORD_BYTES], large_before[sizeof large];
+    static uint16_t longer[ALERTC_EVENTS + 1];
+    const size_t largest = (size_t)ALERTC_RECORDS * ALERTC_RECORD_BYTES;
+    const size_t sizes[] = {0, 1, 34, 41, 43, 68, 83, largest - 1, largest + 1, sizeof large};
+    const size_t lengths[] = {0, 1, 201, 642, ALERTC_EVENTS - 1, ALERTC_EVENTS + 1};
+    small_start();
+    small_catalogue[641] = ALERTC_CATALOGUE_ENTRY(10, 1, 0);
+    memcpy(longer, small_catalogue, sizeof small_catalogue);
+    for (size_t at = 0; at < sizeof large; at += ALERTC_RECORD_BYTES) {
+        memcpy(large + at, accident, sizeof accident);
+    }
+    memcpy(large_before, large, sizeof large);
+    struct alertc_renewal n;
+    for (size_t i = 0; i < sizeof sizes / sizeof sizes[0]; i++) {
+        n = alertc_table_renew(large, sizes[i], longer, ALERTC_EVENTS);
+        SAME(n.refusal, ALERTC_REFUSED_MALFORMED);
+        SAME(n.used, 0);
+    }
+    for (size_t i = 0; i < sizeof lengths / sizeof lengths[0]; i++) {
+        n = alertc_table_renew(large, largest, longer, lengths[i]);
+        SAME(n.refusal, ALERTC_REFUSED_MALFORMED);
+        SAME(n.used, 0);
+        n = alertc_table_renew(small_table, sizeof small_table, longer, lengths[i]);
+        SAME(n.refusal, ALERTC_REFUSED_MALFORMED);
+    }
+    SAME(memcmp(large, large_before, sizeof large), 0);
+
+    /* One record, and then as many as there can be; what stands after them is not written. */
+    large_before[34] = 0x20;
+    large_before[35] = 0x04;
+    n = alertc_table_renew(large, ALERTC_RECORD_BYTES, longer, ALERTC_EVENTS);
+    SAME(n.refusal, ALERTC_ACCEPTED);
+    SAME(n.used, 1);
+    SAME(memcmp(large, large_before, sizeof large), 0);
+    for (size_t at = 0; at < largest; at += ALERTC_RECORD_BYTES) {
+        large_before[at + 35] = 0x04;
+    }
+    n = alertc_table_renew(large, largest, longer, ALERTC_EVENTS);
+    SAME(n.refusal, ALERTC_ACCEPTED);
+    SAME(n.used, ALERTC_RECORDS);
+    SAME(memcmp(large, large_before, sizeof large), 0);
 }
 
 /* Every refusal has a text of its own. */
@@ -1673,6 +2041,8 @@ int main(void) {
     table();
     border();
     classes();
+    sets();
+    renewals();
     texts();
     printf("%u compared, %u differ\n", compared, differing);
     return differing != 0;

@@ -2,7 +2,7 @@
  * A small box: hears a recording, keeps the message table, and prints what holds on the roads at a
  * minute.
  *
- *     box HEARD ASKED < RECORDING
+ *     box HEARD ASKED [NEWER] < RECORDING
  *
  * The recording is in the house form: length (16 bits, low byte first, counting what follows it),
  * kind (16 bits), body. Kind 1 is an RDS group, 2 a FIG 5/1, 3 a DRM data unit. All of it is heard
@@ -18,7 +18,13 @@
  * of another. They are emptied on retuning, which a change of PI shows for RDS; a recording does
  * not say when a DAB or DRM tuner moves.
  *
- * THE CATALOGUE AND THE LIVES BELOW ARE FOR DEMONSTRATION. They know eight events and are not those
+ * Before frame NEWER, if that is given, a newer edition of the catalogue is brought in: the table
+ * is renewed, and later reports are taken with the newer edition. While the table has a report
+ * whose first event has no class in the newer edition, the renewal is refused. The box then keeps
+ * the older edition, with which the table still goes, and tries again before the next frame.
+ * Another receiver may free such records, or empty the table.
+ *
+ * THE CATALOGUES AND THE LIVES BELOW ARE FOR DEMONSTRATION. They know few events and are not those
  * of ISO 14819-2, nor of any service; so is the service that stands until system words name one.
  *
  * Build: rt staticlib capi
@@ -38,10 +44,21 @@ static const uint16_t catalogue[ALERTC_EVENTS] = {
     [100] = ALERTC_CATALOGUE_ENTRY(1, CANCELLING, 0),
     [101] = ALERTC_CATALOGUE_ENTRY(1, ORDINARY, 0),
     [102] = ALERTC_CATALOGUE_ENTRY(1, ORDINARY, 0),
-    [201] = ALERTC_CATALOGUE_ENTRY(3, ORDINARY, 0), /* accident */
-    [401] = ALERTC_CATALOGUE_ENTRY(5, ORDINARY, 1),
+    [201] = ALERTC_CATALOGUE_ENTRY(3, ORDINARY, 0),    /* accident */
+    [401] = ALERTC_CATALOGUE_ENTRY(5, ORDINARY, 1),    /* closed */
     [641] = ALERTC_CATALOGUE_ENTRY(9, ORDINARY, 0),    /* lane closed */
     [2028] = ALERTC_CATALOGUE_ENTRY(9, CANCELLING, 0), /* lane closure cancelled */
+    [2047] = ALERTC_CATALOGUE_ENTRY(0, NULL_MESSAGE, 0),
+};
+
+/* The newer edition: 401 is in the class of 641 and 2028, and 102 is no longer in use. */
+static const uint16_t newer_catalogue[ALERTC_EVENTS] = {
+    [100] = ALERTC_CATALOGUE_ENTRY(1, CANCELLING, 0),
+    [101] = ALERTC_CATALOGUE_ENTRY(1, ORDINARY, 0),
+    [201] = ALERTC_CATALOGUE_ENTRY(3, ORDINARY, 0),
+    [401] = ALERTC_CATALOGUE_ENTRY(9, ORDINARY, 1),
+    [641] = ALERTC_CATALOGUE_ENTRY(9, ORDINARY, 0),
+    [2028] = ALERTC_CATALOGUE_ENTRY(9, CANCELLING, 0),
     [2047] = ALERTC_CATALOGUE_ENTRY(0, NULL_MESSAGE, 0),
 };
 
@@ -69,9 +86,11 @@ struct box {
     struct followed dab[TCIDS];
     struct followed drm[SHORT_IDS];
     uint8_t table[RECORDS * ALERTC_RECORD_BYTES];
+    const uint16_t *catalogue; /* with which the table goes */
     uint32_t clock;
     uint32_t minute;
     unsigned long frame;
+    unsigned long newer; /* the frame before which the newer catalogue comes in, or 0 */
 };
 
 static void retune_rds(struct box *box, uint16_t pi) {
@@ -105,10 +124,20 @@ static void take_word(struct box *box, struct followed *from, uint64_t word) {
     struct alertc_assembler_answer answer = alertc_assembler_step(from->assembler, word);
     from->assembler = answer.next;
     if (accepted(box, answer.refusal) && answer.kind == ALERTC_ANSWER_REPORT) {
-        accepted(box, alertc_table_take(box->table, sizeof box->table, catalogue, ALERTC_EVENTS,
-                                        lives, ALERTC_LIVES, &box->clock, answer.report,
-                                        from->service, box->minute, from->lto)
+        accepted(box, alertc_table_take(box->table, sizeof box->table, box->catalogue,
+                                        ALERTC_EVENTS, lives, ALERTC_LIVES, &box->clock,
+                                        answer.report, from->service, box->minute, from->lto)
                           .refusal);
+    }
+}
+
+/* Brings in the newer catalogue, or keeps the older one where that is refused. */
+static void renew(struct box *box) {
+    struct alertc_renewal renewal =
+        alertc_table_renew(box->table, sizeof box->table, newer_catalogue, ALERTC_EVENTS);
+    if (accepted(box, renewal.refusal)) {
+        box->catalogue = newer_catalogue;
+        printf("newer catalogue before frame %lu, records %zu\n", box->frame, renewal.used);
     }
 }
 
@@ -212,6 +241,9 @@ static void hear(struct box *box) {
             accepted(box, ALERTC_REFUSED_LENGTH);
             return;
         }
+        if (box->newer != 0 && box->newer <= box->frame && box->catalogue != newer_catalogue) {
+            renew(box);
+        }
         switch (kind) {
         case RDS_GROUP:
             take_group(box, body, length);
@@ -259,15 +291,17 @@ static int show(struct box *box, uint32_t minute) {
 }
 
 int main(int argc, char **argv) {
-    if (argc != 3) {
-        fprintf(stderr, "usage: %s HEARD ASKED < RECORDING\n", argv[0]);
+    if (argc != 3 && argc != 4) {
+        fprintf(stderr, "usage: %s HEARD ASKED [NEWER] < RECORDING\n", argv[0]);
         return 2;
     }
     static struct box box;
     retune_rds(&box, 0);
     retune_dab(&box);
     retune_drm(&box);
+    box.catalogue = catalogue;
     box.minute = (uint32_t)strtoul(argv[1], NULL, 10);
+    box.newer = argc == 4 ? strtoul(argv[3], NULL, 10) : 0;
     hear(&box);
     return show(&box, (uint32_t)strtoul(argv[2], NULL, 10));
 }

@@ -46,10 +46,10 @@ extern "C" {
 #endif
 
 /* The version of this interface: the first number changes when a caller must change. */
-#define ALERTC_VERSION_MAJOR 5
+#define ALERTC_VERSION_MAJOR 6
 #define ALERTC_VERSION_MINOR 0
 #define ALERTC_VERSION_PATCH 0
-#define ALERTC_VERSION "5.0.0"
+#define ALERTC_VERSION "6.0.0"
 
 /* ---- Refusals ---- */
 
@@ -509,16 +509,20 @@ uint16_t alertc_check_word(const uint8_t *bytes, size_t bytes_len);
 
 /*
  * A table is ALERTC_RECORD_BYTES for each record, at most ALERTC_RECORDS, all 0 at the start; the
- * bytes of a free record are 0.
+ * bytes of a free record are 0. A used record keeps the set of its report's update classes: a
+ * number of 64 bits in bytes 34 to 41, low byte first, with class c as bit c. An empty set, class 0
+ * in it, or a byte 30 other than 0 is malformed (10). Before 6.0.0 a record was shorter and had the
+ * first event's class in byte 30, so a table of an older version with reports in it is refused.
  */
-#define ALERTC_RECORD_BYTES 34
+#define ALERTC_RECORD_BYTES 42
 #define ALERTC_RECORDS 1024
 
 /*
  * A catalogue has an entry for each event code: bits 0 to 5 the update class, 6 and 7 the kind (0
  * unknown, 1 ordinary, 2 cancelling, 3 null), bit 8 the duration type, the rest 0; the class is 0
- * exactly if the kind is 0 or 3: such an event has no class. A take looks up the events of the
- * stored reports too, so a table goes with its catalogue.
+ * exactly if the kind is 0 or 3: such an event has no class. The records of a table keep classes as
+ * this catalogue has them, so a table goes with its catalogue. A changed catalogue is brought in by
+ * alertc_table_renew, before it is lent to a take.
  */
 #define ALERTC_EVENTS 2048
 #define ALERTC_CATALOGUE_ENTRY(update_class, kind, duration_type) \
@@ -554,13 +558,14 @@ struct alertc_table_answer {
  * offset (9), minute (13), location (12), event unknown (11), no room (14).
  *
  * The kind of a report is that of its first event. Its classes are those of all its events, the
- * first and each item of label 9, as the catalogue has them; so are those of a stored report. An
- * additional event of kind 0 or 3 has no class and is passed over. One of kind 2 adds its class,
- * and does not make the report cancelling.
+ * first and each item of label 9, as the catalogue has them. An additional event of kind 0 or 3 has
+ * no class and is passed over. One of kind 2 adds its class, and does not make the report
+ * cancelling.
  *
- * So a take reads what every used record holds, and also refuses (10) a table with a used record
- * whose content does not read as items, or whose first event has no class in the catalogue. This
- * is tested of records that are about to expire too, and whatever the kind of the report.
+ * The classes of a stored report are those that its record keeps: worked out when it was stored,
+ * and anew by alertc_table_renew. A take neither reads the items of a record nor looks up its
+ * events. Lent a changed catalogue without a renewal, it matches stored reports by the classes of
+ * before; that is no reason for a refusal.
  *
  * A location has three parts: country, table number and code. Of an INTER-ROAD report they are the
  * FLT code's two and the real location, of any other the service's two and `location`. So a report
@@ -575,11 +580,29 @@ struct alertc_table_answer alertc_table_take(uint8_t *table, size_t table_len,
                                              int8_t lto);
 
 /*
- * Frees the records that expire at or before a minute. Refused: table (10), minute (13). Neither
- * the items of a record nor the class of its event is looked at.
+ * Frees the records that expire at or before a minute. Refused: table (10), minute (13). The items
+ * of a record are not read.
  */
 struct alertc_table_answer alertc_table_expire(uint8_t *table, size_t table_len, uint32_t *clock,
                                                uint32_t minute);
+
+struct alertc_renewal {
+    size_t used; /* how many records are used; 0 on a refusal */
+    uint8_t refusal;
+};
+
+/*
+ * Brings in a changed catalogue: works out the set of classes of each used record anew, from its
+ * events and this catalogue, and changes nothing else. It takes no minute: a record whose time is
+ * over is renewed like any other. The takes after it are lent this catalogue. A table whose reports
+ * were all stored with the catalogue stays as it is.
+ *
+ * Refused (10): table or catalogue, their sizes included; a used record whose content does not read
+ * as items, or whose first event has no class in the catalogue. Then no record has changed, and the
+ * table still goes with the catalogue of before.
+ */
+struct alertc_renewal alertc_table_renew(uint8_t *table, size_t table_len,
+                                         const uint16_t *catalogue, size_t catalogue_len);
 
 struct alertc_table_reading {
     struct alertc_report report;   /* all 0 if the record is free */
@@ -591,7 +614,7 @@ struct alertc_table_reading {
 
 /*
  * Reads the record at a place, from 0. Refused: table (10), a place past the last record (9),
- * content (7, 8).
+ * content (7, 8). The set of classes is tested with the table, and is not part of the answer.
  */
 struct alertc_table_reading alertc_table_read(const uint8_t *table, size_t table_len,
                                               size_t place);
@@ -705,6 +728,8 @@ ALERTC_AT_(table_answer, matched, 8);
 ALERTC_AT_(table_answer, place, 16);
 ALERTC_AT_(table_answer, stored, 24);
 ALERTC_AT_(table_answer, refusal, 25);
+ALERTC_SIZE_(renewal, 16);
+ALERTC_AT_(renewal, refusal, 8);
 ALERTC_SIZE_(table_reading, 152);
 ALERTC_AT_(table_reading, service, 136);
 ALERTC_AT_(table_reading, expiry, 140);
