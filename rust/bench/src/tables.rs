@@ -2,7 +2,8 @@
 
 use std::hint::black_box;
 
-use proved::{Report, Service, TableAnswer, TableReading, Taking, RECORD_BYTES as RECORD};
+use proved::RECORD_BYTES as RECORD;
+use proved::{Renewal, Report, Service, TableAnswer, TableReading, Taking};
 
 use crate::input::{multi_at, multi_event_at, single_at, ADDITIONAL_EVENTS};
 use crate::timing::{least, measure, print_limit, Times};
@@ -33,9 +34,18 @@ fn catalogue() -> [u16; EVENTS] {
     catalogue
 }
 
+/// The catalogue with class 63 - c in place of class c.
+fn changed(mut catalogue: [u16; EVENTS]) -> [u16; EVENTS] {
+    for entry in catalogue.iter_mut().filter(|entry| **entry & 63 != 0) {
+        *entry ^= 63;
+    }
+    catalogue
+}
+
 type ReportAt = fn(u16) -> Report;
 type Take = fn(&mut [u8], &mut u32, &Taking) -> TableAnswer;
 type Expire = fn(&mut [u8], &mut u32, u32) -> TableAnswer;
+type Renew = fn(&mut [u8], &[u16]) -> Renewal;
 type Read = fn(&[u8], usize) -> TableReading;
 type ReadAlone = fn(&[u8]) -> TableReading;
 
@@ -79,12 +89,17 @@ impl Table {
         take(&mut self.bytes, &mut self.clock, &taking)
     }
 
-    /// Fills the table but for one record.
-    fn fill(&mut self, report_at: ReportAt) {
-        for location in 0..self.records() - 1 {
+    /// Stores so many reports.
+    fn store(&mut self, count: usize, report_at: ReportAt) {
+        for location in 0..count {
             let answer = self.take(calls::table_take, report_at(location as u16), START);
             assert_eq!((answer.refusal, answer.stored), (0, 1));
         }
+    }
+
+    /// Fills the table but for one record.
+    fn fill(&mut self, report_at: ReportAt) {
+        self.store(self.records() - 1, report_at);
     }
 }
 
@@ -166,6 +181,29 @@ fn expire(records: usize) {
     measure(expire_ours, expire_second).print(&format!("expire at {records} records"), CALLS);
 }
 
+/// Renewals of a full table with two catalogues in turn, by each of which every set changes.
+fn renew(what: &str, records: usize, report_at: ReportAt) {
+    let mut table = Table::new(records, 60);
+    table.store(records, report_at);
+    let catalogues = [changed(table.catalogue), table.catalogue];
+    let run = |bytes: &mut [u8], renew: Renew| {
+        let renew = black_box(renew);
+        for i in 0..CALLS {
+            let answer = renew(bytes, black_box(&catalogues[i % 2]));
+            assert_eq!((answer.refusal, answer.used), (0, records));
+        }
+    };
+    let (mut ours, mut second) = (table.bytes.clone(), table.bytes.clone());
+    let renew_ours = || run(&mut ours, proved::table_renew);
+    let renew_second = || run(&mut second, calls::table_renew);
+    let times = measure(renew_ours, renew_second);
+    assert!(ours == table.bytes && second == table.bytes);
+    let renewal = proved::table_renew(&mut ours, &catalogues[0]);
+    let mut renewed = ours.chunks(RECORD).zip(table.bytes.chunks(RECORD));
+    assert!(renewal.refusal == 0 && renewed.all(|(after, before)| after != before));
+    times.print(&format!("renewal of {records} {what}"), CALLS);
+}
+
 /// Reads a multi-group record and a single-group one in turn.
 fn read(records: usize) {
     let mut table = Table::new(records, 60);
@@ -231,6 +269,8 @@ pub fn bench() {
     );
     take_rough(most);
     expire(most);
+    renew("single-group reports", most, single_at);
+    renew("multi-event reports", most, multi_event_at);
     read(most);
     read_alone();
     for records in sizes {

@@ -5,8 +5,8 @@
 
 use proved::{
     AssemblerAnswer, DrmReading, ExpiryAnswer, FibReading, FigReading, RdsReading, RdsReceived,
-    SystemFields, SystemReading, SystemWritten, TableAnswer, TableReading, Taking, WordComposed,
-    WordFields, WordParsed, Written,
+    Renewal, SystemFields, SystemReading, SystemWritten, TableAnswer, TableReading, Taking,
+    WordComposed, WordFields, WordParsed, Written,
 };
 use second::assembler::{Answer, Assembler, Open};
 use second::clock::Utc;
@@ -521,6 +521,11 @@ pub fn table_expire(table: &mut [u8], clock: &mut u32, minute: u32) -> TableAnsw
         refusal,
         ..TableAnswer::default()
     }
+}
+
+pub fn table_renew(table: &mut [u8], catalogue: &[u16]) -> Renewal {
+    let (used, refusal) = split(table::renew(table, catalogue));
+    Renewal { used, refusal }
 }
 
 pub fn table_read(table: &[u8], place: usize) -> TableReading {

@@ -1,8 +1,17 @@
 //! The update classes of reports and records, worked out without either program.
 
+use std::collections::BTreeSet;
+use std::ops::Range;
+
 use proved::{Item, Report};
 
 use crate::sender::{self, ADDITIONAL_EVENT};
+
+/// A set of classes.
+pub type Set = BTreeSet<u8>;
+
+/// The bytes of a record that store its set.
+pub const STORED: Range<usize> = 34..42;
 
 /// The kind of an event; none if the catalogue ends before it.
 pub fn kind(catalogue: &[u16], event: u16) -> Option<u16> {
@@ -22,18 +31,25 @@ pub fn additional_events(items: &[Item]) -> impl Iterator<Item = u16> + '_ {
     additional.map(|item| item.value)
 }
 
-/// Why a take refuses a used record (10).
-#[derive(Clone, Copy, Debug, PartialEq, Eq)]
-pub enum Fault {
-    /// Its content does not read as items.
-    Content,
-    /// Its first event has no class.
-    Event,
+/// The set that a record stores: class c is bit c mod 8 of byte c / 8.
+pub fn stored(record: &[u8]) -> Set {
+    let bytes = &record[STORED];
+    let stores = |class: &u8| bytes[usize::from(class / 8)] >> (class % 8) & 1 == 1;
+    (0..64).filter(stores).collect()
+}
+
+/// The bytes that store a set.
+pub fn bytes(set: &Set) -> [u8; 8] {
+    let mut bytes = [0; 8];
+    for class in set {
+        bytes[usize::from(class / 8)] |= 1 << (class % 8);
+    }
+    bytes
 }
 
 /// The class of each event of a report or of a record.
 pub struct Classes {
-    first: Option<u8>,
+    pub first: Option<u8>,
     additional: Vec<Option<u8>>,
 }
 
@@ -52,21 +68,20 @@ impl Classes {
         Self::new(catalogue, report.head.event, items)
     }
 
-    /// Of a used record, if a take accepts it.
-    pub fn of_record(catalogue: &[u16], record: &[u8]) -> Result<Self, Fault> {
-        let items = sender::record_items(record).ok_or(Fault::Content)?;
+    /// Of a used record, if its content reads as items.
+    pub fn of_record(catalogue: &[u16], record: &[u8]) -> Option<Self> {
+        let items = sender::record_items(record)?;
         let event = u16::from_le_bytes([record[6], record[7]]);
-        let classes = Self::new(catalogue, event, &items);
-        classes.first.ok_or(Fault::Event)?;
-        Ok(classes)
+        Some(Self::new(catalogue, event, &items))
     }
 
-    /// Whether a class is that of one of the events.
-    pub fn contains(&self, class: u8) -> bool {
-        self.first == Some(class) || self.additional.contains(&Some(class))
+    /// The set of them.
+    pub fn set(&self) -> Set {
+        let additional = self.additional.iter().flatten();
+        self.first.iter().chain(additional).copied().collect()
     }
 
-    /// How a report of these classes meets a record.
+    /// How the events of a report of these classes meet those of a record.
     pub fn meet(&self, record: &Self) -> Meeting {
         let share = |of: &[Option<u8>], with: &[Option<u8>]| {
             let mut classes = of.iter().filter(|class| class.is_some());
@@ -85,7 +100,7 @@ impl Classes {
     }
 }
 
-/// What a report and a record have in common.
+/// What the events of a report and of a record have in common.
 #[derive(Clone, Copy)]
 pub struct Meeting {
     /// Whether a class: of both first events, of the report's first and an additional one of the
@@ -96,7 +111,7 @@ pub struct Meeting {
 }
 
 impl Meeting {
-    /// Whether they match on class.
+    /// Whether they have a class in common.
     pub fn matches(&self) -> bool {
         self.shared.contains(&true)
     }

@@ -13,15 +13,20 @@ use tally::Tally;
 mod blocks;
 mod carriers;
 mod classes;
+mod faults;
 mod fib_write;
 mod fibs;
 mod fields;
 mod listings;
+mod lists;
 mod random;
 mod rds;
+mod records;
+mod renewals;
 mod reports;
 mod sender;
 mod tables;
+mod takes;
 mod tally;
 mod transmissions;
 mod words;
@@ -73,6 +78,9 @@ impl Trial {
         }
         for _ in 0..80 {
             self.table_walk(&lists);
+        }
+        for _ in 0..20 {
+            self.table_run(&lists);
         }
         for _ in 0..40 {
             self.stored(&lists);

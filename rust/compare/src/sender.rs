@@ -1,6 +1,7 @@
 //! A plain sender: every form is built as a string of bits, field by field, so that what a reader
 //! must answer is known without either program.
 
+use crate::classes::{self, Set};
 use crate::random::Random;
 use proved::{DrmUnit, Fig, Head, Item, RdsGroup, Report, Service, SystemFields, WordFields};
 
@@ -670,8 +671,8 @@ pub fn record_items(record: &[u8]) -> Option<Vec<Item>> {
     items_of(&Bits::of(&bytes).0[..length.min(CONTENT_BITS)])
 }
 
-/// The bytes of a record.
-pub fn record(report: &Report, service: Service, expiry: u32, class: u8) -> Vec<u8> {
+/// The bytes of a record that stores these classes.
+pub fn record(report: &Report, service: Service, expiry: u32, classes: &Set) -> Vec<u8> {
     let Location { country, ltn, code } = location(report, service);
     let items = &report.items[..report.item_count];
     let groups = match report.form {
@@ -689,6 +690,7 @@ pub fn record(report: &Report, service: Service, expiry: u32, class: u8) -> Vec<
     record.extend([report.diversion, report.duration]);
     record.extend(expiry.to_le_bytes());
     record.extend(content.bytes());
-    record.extend([class, service.country, country, ltn]);
+    record.extend([0, service.country, country, ltn]);
+    record.extend(classes::bytes(classes));
     record
 }

@@ -4,8 +4,10 @@ use std::collections::BTreeMap;
 use std::fmt::Debug;
 use std::process;
 
+use crate::faults::{Fault, Faults};
+
 /// The calls, each with the refusals that it can give.
-const CALLS: [(Call, &str, &[u8]); 23] = [
+const CALLS: [(Call, &str, &[u8]); 24] = [
     (Call::WordParse, "word parse", &[9]),
     (Call::WordCompose, "word compose", &[9]),
     (Call::SystemRead, "system read", &[2]),
@@ -24,6 +26,7 @@ const CALLS: [(Call, &str, &[u8]); 23] = [
     (Call::CheckWord, "check word", &[]),
     (Call::TableTake, "table take", &[9, 10, 11, 12, 13, 14]),
     (Call::TableExpire, "table expire", &[10, 13]),
+    (Call::TableRenew, "table renew", &[10]),
     (Call::TableRead, "table read", &[7, 8, 9, 10]),
     (Call::RecordRead, "record read", &[7, 8, 10]),
     (Call::Expiry, "expiry", &[9, 10, 13]),
@@ -51,6 +54,7 @@ pub enum Call {
     CheckWord,
     TableTake,
     TableExpire,
+    TableRenew,
     TableRead,
     RecordRead,
     Expiry,
@@ -106,6 +110,7 @@ answers! {
     FibReading {}
     DrmReading {}
     TableAnswer {}
+    Renewal {}
     TableReading {}
     ExpiryAnswer {}
 }
@@ -141,7 +146,14 @@ unrefused!(u16);
 #[derive(Default)]
 pub struct Tally {
     answers: BTreeMap<(Call, u8), u64>,
+    /// Refusals 10 for one fault alone.
+    faults: BTreeMap<(Call, Fault), u64>,
     marks: BTreeMap<&'static str, u64>,
+}
+
+/// The line of refusals for one fault alone.
+fn fault_line(call: &str, fault: Fault) -> String {
+    format!("{call}: 10 for {} alone", fault.name())
 }
 
 /// Prints a difference and ends.
@@ -196,6 +208,16 @@ impl Tally {
         }
     }
 
+    /// A call must refuse 10 if there is a fault, and for nothing else.
+    pub fn expect_faults(&mut self, call: Call, input: &dyn Debug, refusal: u8, faults: &Faults) {
+        self.expect(call, &(faults, input), refusal == 10, !faults.is_empty());
+        if faults.len() == 1 {
+            for &fault in faults {
+                *self.faults.entry((call, fault)).or_default() += 1;
+            }
+        }
+    }
+
     pub fn count(&mut self, call: Call, refusal: u8) {
         *self.answers.entry((call, refusal)).or_default() += 1;
     }
@@ -221,6 +243,11 @@ impl Tally {
                 .collect();
             println!("{name:15} {}", answers.join(", "));
         }
+        for (call, name, _) in CALLS {
+            for ((_, fault), count) in self.faults.iter().filter(|((of, _), _)| *of == call) {
+                println!("{}: {count}", fault_line(name, *fault));
+            }
+        }
         for (mark, count) in &self.marks {
             println!("{mark}: {count}");
         }
@@ -236,6 +263,11 @@ impl Tally {
             for refusal in refusals.iter().chain(&[0]) {
                 if !self.answers.contains_key(&(call, *refusal)) {
                     missing.push(format!("{name}: {refusal}"));
+                }
+            }
+            for fault in Fault::ALL {
+                if fault.refused_by(call) && !self.faults.contains_key(&(call, fault)) {
+                    missing.push(fault_line(name, fault));
                 }
             }
         }

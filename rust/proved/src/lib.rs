@@ -84,6 +84,12 @@ mod c {
             clock: *mut u32,
             minute: u32,
         ) -> TableAnswer;
+        pub fn alertc_table_renew(
+            table: *mut u8,
+            table_len: usize,
+            catalogue: *const u16,
+            catalogue_len: usize,
+        ) -> Renewal;
         pub fn alertc_table_read(table: *const u8, table_len: usize, place: usize) -> TableReading;
         pub fn alertc_record_read(record: *const u8, record_len: usize) -> TableReading;
         pub fn alertc_expiry(minute: u32, lto: i8, life: u16) -> ExpiryAnswer;
@@ -213,6 +219,17 @@ pub fn table_take(table: &mut [u8], clock: &mut u32, taking: &Taking) -> TableAn
 
 pub fn table_expire(table: &mut [u8], clock: &mut u32, minute: u32) -> TableAnswer {
     unsafe { c::alertc_table_expire(table.as_mut_ptr(), table.len(), clock, minute) }
+}
+
+pub fn table_renew(table: &mut [u8], catalogue: &[u16]) -> Renewal {
+    unsafe {
+        c::alertc_table_renew(
+            table.as_mut_ptr(),
+            table.len(),
+            catalogue.as_ptr(),
+            catalogue.len(),
+        )
+    }
 }
 
 pub fn table_read(table: &[u8], place: usize) -> TableReading {

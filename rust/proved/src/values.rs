@@ -5,7 +5,7 @@ use std::mem::{offset_of, size_of};
 /// The most items of a report.
 pub const ITEMS: usize = 28;
 /// Bytes of a record of the message table.
-pub const RECORD_BYTES: usize = 34;
+pub const RECORD_BYTES: usize = 42;
 
 /// Structs of numbers, each with its size in bytes.
 macro_rules! values {
@@ -202,6 +202,12 @@ values! {
         refusal: u8,
     }
 
+    /// How many records are used.
+    Renewal, 16 {
+        used: usize,
+        refusal: u8,
+    }
+
     TableReading, 152 {
         report: Report,
         service: Service,
@@ -236,6 +242,7 @@ const _: () = {
     assert!(offset_of!(DrmUnit, system_words) == 8);
     assert!(offset_of!(DrmReading, refusal) == 22);
     assert!(offset_of!(TableAnswer, refusal) == 25);
+    assert!(offset_of!(Renewal, refusal) == 8);
     assert!(offset_of!(TableReading, service) == 136);
     assert!(offset_of!(TableReading, expiry) == 140);
     assert!(offset_of!(TableReading, refusal) == 145);

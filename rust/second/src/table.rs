@@ -1,14 +1,16 @@
 //! The message table: 1 to 1,024 records of lent bytes.
 
+use std::ops::BitOr;
+
 use crate::clock::{self, Utc};
-use crate::content::Content;
+use crate::content::{Content, Item};
 use crate::inter_road::{flt_code, is_flt, Location};
 use crate::report::Report;
 use crate::word::{Head, CONTENT_BITS};
 use crate::{require, Refusal};
 
 /// Bytes of a record.
-pub const RECORD: usize = 34;
+pub const RECORD: usize = 42;
 /// The most records of a table.
 pub const MOST_RECORDS: usize = 1024;
 /// Entries of a catalogue.
@@ -32,10 +34,10 @@ const DIVERSION: usize = 10;
 const DURATION: usize = 11;
 const EXPIRY: usize = 12;
 const CONTENT: usize = 16;
-const CLASS: usize = 30;
 const COUNTRY: usize = 31;
 const LOCATION_COUNTRY: usize = 32;
 const LOCATION_LTN: usize = 33;
+const CLASSES: usize = 34;
 
 /// Label of an additional event.
 const ADDITIONAL_EVENT: u8 = 9;
@@ -49,14 +51,14 @@ const ZERO_BITS: u128 = u128::from_le_bytes([
 const MATCH_BITS: u128 = u128::from_le_bytes([
     0xFF, 0, 0xFF, 0xFF, 0xFF, 0xFF, 0, 0, 0xFF, 0, 0, 0, 0, 0, 0, 0,
 ]);
-/// The bits that are zero in the second part (first byte highest) of a record of so many
-/// groups: the content after its 28 bits a later group, and the tops of class and country.
+/// The bits that are zero in the second part of a record of so many groups: the content after its
+/// 28 bits a later group, byte 30, and the top of the country.
 const ZERO_TAIL: [u128; 6] = {
     let mut bits = [u128::MAX; 6];
     let mut groups = 1;
     while groups <= 5 {
         let content = 112 - CONTENT_BITS * (groups as u32 - 1);
-        bits[groups] = ((1 << content) - 1) << 16 | 0xC0F0;
+        bits[groups] = u128::swap_bytes(((1 << content) - 1) << 16 | 0xFFF0);
         groups += 1;
     }
     bits
@@ -88,7 +90,7 @@ pub struct Entry {
     pub expiry: u32,
 }
 
-/// What stands beside the table: the events' classes and kinds, and the lives.
+/// What is lent to a take: the events' classes and kinds, and the lives.
 #[derive(Clone, Copy, Debug)]
 pub struct Lists<'a> {
     pub catalogue: &'a [u16],
@@ -124,6 +126,9 @@ enum Kind {
 
 /// A set of update classes, class c as bit c.
 type Classes = u64;
+
+/// Class 0, which no event has.
+const CLASS_0: Classes = 1;
 
 /// An entry of the catalogue.
 #[derive(Clone, Copy)]
@@ -165,61 +170,83 @@ impl Event {
     }
 }
 
-impl Lists<'_> {
-    /// Whether both are well-formed, their sizes included.
+/// A well-formed catalogue.
+#[derive(Clone, Copy)]
+struct Catalogue<'a>(&'a [u16; EVENTS]);
+
+impl<'a> Catalogue<'a> {
+    /// Refuses 10 a malformed one, of another size too.
     #[inline]
-    fn fit(&self) -> bool {
-        let fits = |fit, &entry: &u16| fit & Event(entry).fits();
-        self.catalogue.len() == EVENTS
-            && self.lives.len() == LIVES
-            && self.catalogue.iter().fold(true, fits)
-            && self.lives.iter().all(|&life| life <= clock::LONGEST_LIFE)
+    fn new(entries: &'a [u16]) -> Result<Self, Refusal> {
+        let entries: &[u16; EVENTS] = entries.try_into().map_err(|_| Refusal::Malformed)?;
+        let fit = |fit, &entry: &u16| fit & Event(entry).fits();
+        require(entries.iter().fold(true, fit), Refusal::Malformed)?;
+        Ok(Self(entries))
     }
 
     /// The entry of an event code.
     #[inline]
-    fn event(&self, code: u16) -> Event {
-        Event(self.catalogue[usize::from(code)])
+    fn event(self, code: u16) -> Event {
+        Event(self.0[usize::from(code)])
     }
 
-    /// The classes of all events of a used record, the first and the additional ones. Refuses 7 or
-    /// 8 content that does not read as items.
+    /// The class of an additional event; none of another item.
     #[inline]
-    fn classes(&self, record: &Record) -> Result<Classes, Refusal> {
+    fn additional(self, item: Item) -> Classes {
+        match item.label {
+            ADDITIONAL_EVENT => self.event(item.value).classes(),
+            _ => 0,
+        }
+    }
+
+    /// The classes of all events of a report that fits, the first and the additional ones.
+    #[inline]
+    fn of_report(self, report: &Report) -> Classes {
+        let additional = report.items.as_slice().iter();
+        let classes = additional.map(|&item| self.additional(item));
+        classes.fold(self.event(report.head.event).classes(), BitOr::bitor)
+    }
+
+    /// The same of a used record; refuses 10 one whose first event has no class or whose content
+    /// does not read as items.
+    #[inline]
+    fn of_record(self, record: &Record) -> Result<Classes, Refusal> {
         let mut classes = self.event(number(record, EVENT)).classes();
-        content(record).each_item(|item| {
-            if item.label == ADDITIONAL_EVENT {
-                classes |= self.event(item.value).classes();
-            }
-        })?;
+        require(classes != 0, Refusal::Malformed)?;
+        let read = content(record).each_item(|item| classes |= self.additional(item));
+        require(read.is_ok(), Refusal::Malformed)?;
         Ok(classes)
     }
+}
 
-    /// Whether a record is free, or its first event has a class and its content reads as items.
-    #[inline]
-    fn fit_record(&self, record: &Record) -> bool {
-        is_free(record)
-            || self.event(number(record, EVENT)).classes() != 0
-                && content(record).each_item(|_| ()).is_ok()
-    }
+/// Whether lives are well-formed, their number included.
+#[inline]
+fn lives_fit(lives: &[u16]) -> bool {
+    lives.len() == LIVES && lives.iter().all(|&life| life <= clock::LONGEST_LIFE)
+}
+
+/// So many bytes of a record.
+#[inline]
+fn bytes<const N: usize>(record: &Record, at: usize) -> [u8; N] {
+    *record[at..].first_chunk().unwrap_or(&[0; N])
 }
 
 /// The first part of a record, 16 bytes, first byte lowest.
 #[inline]
 fn front(record: &Record) -> u128 {
-    u128::from_le_bytes(record.first_chunk().copied().unwrap_or_default())
+    u128::from_le_bytes(bytes(record, 0))
 }
 
-/// The second part of a record, 16 bytes, first byte highest.
+/// The second part of a record, 16 bytes, first byte lowest.
 #[inline]
 fn tail(record: &Record) -> u128 {
-    u128::from_be_bytes(record[CONTENT..].first_chunk().copied().unwrap_or_default())
+    u128::from_le_bytes(bytes(record, CONTENT))
 }
 
 /// The number of two bytes of a record, low byte first.
 #[inline]
 fn number(record: &Record, at: usize) -> u16 {
-    u16::from_le_bytes([record[at], record[at + 1]])
+    u16::from_le_bytes(bytes(record, at))
 }
 
 #[inline]
@@ -229,7 +256,13 @@ fn is_free(record: &Record) -> bool {
 
 #[inline]
 fn expiry(record: &Record) -> u32 {
-    (front(record) >> (8 * EXPIRY)) as u32
+    u32::from_le_bytes(bytes(record, EXPIRY))
+}
+
+/// The classes that a record stores.
+#[inline]
+fn classes(record: &Record) -> Classes {
+    u64::from_le_bytes(bytes(record, CLASSES))
 }
 
 /// The content of a used record, of no parts if it has one group.
@@ -237,7 +270,7 @@ fn expiry(record: &Record) -> u32 {
 fn content(record: &Record) -> Content {
     Content {
         parts: record[GROUPS] - 1,
-        bits: tail(record) >> 16 << 16,
+        bits: tail(record).swap_bytes() >> 16 << 16,
     }
 }
 
@@ -245,8 +278,9 @@ fn content(record: &Record) -> Content {
 fn is_well_formed(record: &Record) -> bool {
     let (front, tail) = (front(record), tail(record));
     let location = number(record, LOCATION_COUNTRY);
+    let classes = classes(record);
     if front as u8 == 0 {
-        return front | tail | u128::from(location) == 0;
+        return front | tail | u128::from(location) | u128::from(classes) == 0;
     }
     let zero_tail = ZERO_TAIL[usize::from(record[GROUPS]).min(5)];
     (front as u8 == 1)
@@ -254,8 +288,9 @@ fn is_well_formed(record: &Record) -> bool {
         & (front & ZERO_BITS == 0)
         & (expiry(record) != 0)
         & (tail & zero_tail == 0)
-        & (record[CLASS] != 0)
         & (location & ZERO_LOCATION == 0)
+        & (classes != 0)
+        & (classes & CLASS_0 == 0)
 }
 
 /// The records of a well-formed table; else 10.
@@ -295,10 +330,9 @@ pub fn expire(table: &mut [u8], last: &mut Utc, minute: Utc) -> Result<usize, Re
     Ok(expired)
 }
 
-/// Takes a report. Refuses, in this order, a malformed table, catalogue or lives, or a used record
-/// whose content does not read as items or whose first event has no class (10), an unfit report,
-/// service or offset (9), the minute (13), a location whose code is an FLT code (12), an unknown
-/// event (11) and a lack of room (14).
+/// Takes a report, which matches by the classes that the records store. Refuses, in this order, a
+/// malformed table, catalogue or lives (10), an unfit report, service or offset (9), the minute
+/// (13), a location whose code is an FLT code (12), an unknown event (11) and a lack of room (14).
 #[inline]
 pub fn take(
     table: &mut [u8],
@@ -306,9 +340,9 @@ pub fn take(
     last: &mut Utc,
     arrival: Arrival,
 ) -> Result<Taken, Refusal> {
-    let records = records(table)?;
-    let fit = lists.fit() && records.iter().all(|record| lists.fit_record(record));
-    require(fit, Refusal::Malformed)?;
+    records(table)?;
+    let catalogue = Catalogue::new(lists.catalogue)?;
+    require(lives_fit(lists.lives), Refusal::Malformed)?;
     let Arrival {
         report,
         service,
@@ -321,7 +355,7 @@ pub fn take(
     check_minute(*last, minute)?;
     let location = report.location(service.country, service.ltn);
     require(!is_flt(location.code), Refusal::Foreign)?;
-    let event = lists.event(report.head.event);
+    let event = catalogue.event(report.head.event);
     let kind = event.kind();
     require(kind != Kind::Unknown, Refusal::UnknownEvent)?;
 
@@ -336,16 +370,14 @@ pub fn take(
         service,
         expiry: minute.expiry(lto, life)?.0,
     };
-    let new = entry.write(location, packed, event.class());
+    let new_classes = catalogue.of_report(report);
+    let new = entry.write(location, packed, new_classes);
     let new_front = front(&new) & MATCH_BITS;
-    let new_classes = lists.classes(&new)?;
     let matches = |record: &Record| {
         kind != Kind::Null
             && front(record) & MATCH_BITS == new_front
-            && record[COUNTRY..] == new[COUNTRY..]
-            && lists
-                .classes(record)
-                .is_ok_and(|classes| classes & new_classes != 0)
+            && record[COUNTRY..CLASSES] == new[COUNTRY..CLASSES]
+            && classes(record) & new_classes != 0
     };
 
     // With no record free at the end none was freed, so refusal 14 finds the table as it was.
@@ -375,6 +407,29 @@ pub fn take(
     }
     *last = minute;
     Ok(taken)
+}
+
+/// Works the classes of every used record out anew, from its events and a changed catalogue, and
+/// gives the number of these records. Refuses 10 a malformed table or catalogue, and a used record
+/// whose first event has no class or whose content does not read as items.
+#[inline]
+pub fn renew(table: &mut [u8], catalogue: &[u16]) -> Result<usize, Refusal> {
+    let records = records(table)?;
+    let catalogue = Catalogue::new(catalogue)?;
+    // All are worked out before one is written; a free record's stay empty.
+    let mut renewed = [0; MOST_RECORDS];
+    let mut used = 0;
+    for (classes, record) in renewed.iter_mut().zip(records) {
+        if !is_free(record) {
+            *classes = catalogue.of_record(record)?;
+            used += 1;
+        }
+    }
+    let records: &mut [Record] = table.as_chunks_mut().0;
+    for (record, classes) in records.iter_mut().zip(renewed) {
+        record[CLASSES..].copy_from_slice(&classes.to_le_bytes());
+    }
+    Ok(used)
 }
 
 /// Reads record `i`, `None` if it is free. Refuses 10 a malformed table, 9 a place past the last
@@ -439,9 +494,14 @@ fn entry_of(record: &Record) -> Result<Option<Entry>, Refusal> {
 
 impl Entry {
     /// The record of an entry that fits, with its location, the groups and content of its items
-    /// alone, and its class.
+    /// alone, and its classes.
     #[inline]
-    fn write(&self, location: Location, (groups, content): (u8, Content), class: u8) -> Record {
+    fn write(
+        &self,
+        location: Location,
+        (groups, content): (u8, Content),
+        classes: Classes,
+    ) -> Record {
         let head = self.report.head;
         let mut record = FREE;
         record[0] = 1;
@@ -456,10 +516,10 @@ impl Entry {
         record[DURATION] = self.report.duration;
         record[EXPIRY..CONTENT].copy_from_slice(&self.expiry.to_le_bytes());
         record[CONTENT..LOCATION_COUNTRY].copy_from_slice(&content.bits.to_be_bytes());
-        record[CLASS] = class;
         record[COUNTRY] = self.service.country;
         record[LOCATION_COUNTRY] = location.country;
         record[LOCATION_LTN] = location.ltn;
+        record[CLASSES..].copy_from_slice(&classes.to_le_bytes());
         record
     }
 }
@@ -614,19 +674,31 @@ mod tests {
             (10, 1),
             (11, 7),
         ];
-        let ends = [(30, 63), (31, 15), (32, 15), (33, 63)];
+        let ends = [(30, 0), (31, 15), (32, 15), (33, 63)];
         for (at, most) in limits.into_iter().chain(ends) {
             assert!(!bad(at, most), "{at}");
             assert!(bad(at, most + 1), "{at}");
             assert!(bad(at, 255), "{at}");
         }
-        for at in [0, 1, 12, 30] {
+        for at in [0, 1, 12] {
             assert!(bad(at, 0), "{at}");
+        }
+        // Class 5 is stored: none, with class 0, with all classes of a byte.
+        assert!(bad(34, 0));
+        assert!(bad(34, 0x21));
+        assert!(!bad(34, 0xFE));
+        for at in 35..RECORD {
+            assert!(!bad(at, 255), "{at}");
         }
         for at in 16..30 {
             assert!(bad(at, 1), "{at}");
         }
         assert!(bad(0, 2));
+        for at in 1..RECORD {
+            let mut free = FREE;
+            free[at] = 0x80;
+            assert_eq!(read(&free, 0), Err(Refusal::Malformed), "{at}");
+        }
         for length in [0, RECORD - 1, RECORD + 1, RECORD * 1025] {
             assert_eq!(read(&vec![0; length], 0), Err(Refusal::Malformed));
         }

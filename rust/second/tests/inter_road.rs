@@ -174,7 +174,7 @@ fn the_record_and_its_home_neighbour() {
         0x01, 0x02, 0x03, 0x11, 0xF4, 0x01, 0x91, 0x01, 0x00, 0x01, 0x00, 0x02, 0xA0, 0x00, 0x00,
         0x00, 0x35, 0x02,
     ]);
-    bytes[30..].copy_from_slice(&[0x09, 0x0D, 0x0D, 0x01]);
+    bytes[31..36].copy_from_slice(&[0x0D, 0x0D, 0x01, 0x00, 0x02]);
     assert_eq!(table.record(0), bytes);
 
     // The home report at 500 differs only in byte 33, and neither matches the other.
@@ -226,7 +226,7 @@ fn a_record_of_one_group_with_a_foreign_table() {
     let mut record = [0; RECORD];
     record[..12].copy_from_slice(&[1, 1, 3, 17, 0xF4, 1, 101, 0, 1, 2, 0, 3]);
     record[12] = 1;
-    record[30..].copy_from_slice(&[9, 13, 13, 1]);
+    record[31..36].copy_from_slice(&[13, 13, 1, 0, 2]);
     let entry = read_record(&record).unwrap().unwrap();
     let report = Report {
         real_location: 500,

@@ -34,6 +34,15 @@ pub fn multi(head: Head, real_location: u16, pairs: &[(u8, u16)]) -> Report {
     Report::of_items(head, real_location, items)
 }
 
+/// A catalogue of these events with their entries; the others are unknown.
+pub fn catalogue(events: &[(usize, u16)]) -> [u16; EVENTS] {
+    let mut catalogue = [0; EVENTS];
+    for &(event, entry) in events {
+        catalogue[event] = entry;
+    }
+    catalogue
+}
+
 /// A table, beside it a catalogue and lives of an hour.
 pub struct Table {
     pub bytes: Vec<u8>,
@@ -42,16 +51,12 @@ pub struct Table {
 }
 
 impl Table {
-    /// A table of free records with these events and their entries; the others are unknown.
+    /// A table of free records with a catalogue of these events.
     pub fn new(records: usize, events: &[(usize, u16)]) -> Self {
-        let mut catalogue = [0; EVENTS];
-        for &(event, entry) in events {
-            catalogue[event] = entry;
-        }
         Self {
             bytes: vec![0; records * RECORD],
             last: Utc(0),
-            catalogue,
+            catalogue: catalogue(events),
         }
     }
 
