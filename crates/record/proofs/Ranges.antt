@@ -1,5 +1,5 @@
 -- What the ranges of a record's bytes say.
-use Prim.Native.Nat.{ℕ, zero, suc, _+_, _≤_, _<_}
+use Prim.Native.Nat.{ℕ, zero, suc, _+_, _^_, _≤_, _<_}
 use mathlib.Core.Path.{_≡_, refl, sym, ap, ap₂, subst, _∙_}
 use mathlib.Core.Bool.{Bool, true, false, _&&_, _||_, and-assoc, and-true}
 use mathlib.Core.List.{List, [], _∷_}
@@ -7,11 +7,11 @@ use native.Mathlib.Omega.{arith}
 use lib.ListN.{take, drop, getD}
 use lib.Seq.{getD-drop}
 use lib.Dec.{leb, eqb}
-use borrow.Author.Tests.{leb-true, eqb-true, eqb-false, ne-eqb}
+use borrow.Author.Tests.{leb-true, lt-ltb, eqb-true, eqb-false, ne-eqb}
 use Rattle.bits.specs.Bits.{allZero}
 use Rattle.bits.proofs.Choice.{and-left, and-right}
 use Rattle.record.specs.Layout.{byteAt, groupsIn}
-use Rattle.record.specs.WellFormed.{rangesFit, marked, complete, spareIn, restFits, wellFormed}
+use Rattle.record.specs.WellFormed.{within, rangesFit, marked, complete, spareIn, restFits, wellFormed}
 
 -- a test holds of every number below n
 unfoldable pub allBelow : (ℕ → Bool) → ℕ → Bool
@@ -52,6 +52,11 @@ pub allBelow-first : (p : ℕ → Bool) (n : ℕ) → allBelow p (suc n) ≡ p 0
 unfolding allBelow
 allBelow-first p zero = sym (and-true (p 0))
 allBelow-first p (suc n) = ap (λ (b : Bool). b && p (suc n)) (allBelow-first p n) ∙ and-assoc (p 0) (allBelow (λ k. p (suc k)) n) (p (suc n))
+
+-- one byte more that is in its range
+pub within-next : (w x : ℕ) (ws xs : List ℕ) → x < 2 ^ w → within ws xs ≡ true → within (w ∷ ws) (x ∷ xs) ≡ true
+unfolding within
+within-next w x ws xs h e = ap₂ (λ (a b : Bool). a && b) (lt-ltb x (2 ^ w) h) e
 
 -- a part of bytes
 front-lt : (n : ℕ) (l : List ℕ) (i : ℕ) → ((j : ℕ) → getD l j 0 < 256) → getD (take n l) i 0 < 256

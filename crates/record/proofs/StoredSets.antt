@@ -1,15 +1,16 @@
 -- The set of a record: stored, and read back.
-use Prim.Native.Nat.{ℕ, _+_, _*_, _/_, _%_, _≤_, _<_}
+use Prim.Native.Nat.{ℕ, _+_, _/_, _%_, _^_, _≤_, _<_}
 use native.Mathlib.Omega.{arith}
 use mathlib.Core.Path.{_≡_, refl, sym, ap, _∙_}
-use mathlib.Core.Bool.{true, false}
+use mathlib.Core.Bool.{true}
 use mathlib.Core.List.{List, [], _∷_, _++_, append-nil}
-use lib.ListN.{length, take, drop, getD, length-append, length-drop, drop-of-length-le, take-append-drop}
-use lib.Seq.{sets, sets-eq, length-take-le, getD-append-add, getD-drop}
+use lib.ListN.{length, take, getD, replicate, length-append, drop-of-length-le}
+use lib.Seq.{sets, sets-eq, length-take-le, getD-append-add}
 use borrow.Author.Tests.{eq-eqb, ne-eqb}
 use Rattle.bits.proofs.Choice.{chosen, passed-over}
 use Rattle.record.specs.Layout.{recordSize, fourAt, fourBytes, eightBytes, setAt, setIn, withSet}
-use Rattle.record.proofs.Zeros.{Bytes}
+use Rattle.record.specs.WellFormed.{within}
+use Rattle.record.proofs.Ranges.{within-next}
 
 module _ (set : ℕ) (r : List ℕ) where
   pub set-put : length r ≡ recordSize → withSet set r ≡ take setAt r ++ eightBytes set
@@ -34,7 +35,7 @@ module _ (set : ℕ) (r : List ℕ) where
   length-put long = ap length (set-put long) ∙ length-append (take setAt r) (eightBytes set) ∙ omega (arith, length-take-le setAt r (omega arith))
 
 -- a number in eight bytes after others
-pub eight-back : (front : List ℕ) (n : ℕ) → length front ≡ setAt → n < 0x1_0000_0000_0000_0000 → setIn (front ++ eightBytes n) ≡ n
+pub eight-back : (front : List ℕ) (n : ℕ) → length front ≡ setAt → n < 2 ^ 64 → setIn (front ++ eightBytes n) ≡ n
 eight-back front n long small = let low : fourAt (front ++ eightBytes n) setAt ≡ n % 0x1_0000_0000 = omega (arith, at 0, at 1, at 2, at 3) in omega (arith, low, high)
   where
     at : (j : ℕ) → getD (front ++ eightBytes n) (setAt + j) 0 ≡ getD (eightBytes n) j 0
@@ -43,5 +44,21 @@ eight-back front n long small = let low : fourAt (front ++ eightBytes n) setAt �
     high : fourAt (front ++ eightBytes n) (setAt + 4) ≡ n / 0x1_0000_0000
     high = omega (arith, at 4, at 5, at 6, at 7)
 
-pub set-back : (set : ℕ) (r : List ℕ) → length r ≡ recordSize → set < 0x1_0000_0000_0000_0000 → setIn (withSet set r) ≡ set
+pub set-back : (set : ℕ) (r : List ℕ) → length r ≡ recordSize → set < 2 ^ 64 → setIn (withSet set r) ≡ set
 set-back set r long small = ap setIn (set-put set r long) ∙ eight-back (take setAt r) set (length-take-le setAt r (omega arith)) small
+
+-- each of its bytes is in its range
+pub eight-within : (n : ℕ) → n < 2 ^ 64 → within (replicate 8 8) (eightBytes n) ≡ true
+unfolding within
+eight-within n small =
+    let l = n % 0x1_0000_0000 in
+    let h = n / 0x1_0000_0000 in
+    let more : (x : ℕ) (ws xs : List ℕ) → x < 256 → within ws xs ≡ true → within (8 ∷ ws) (x ∷ xs) ≡ true = within-next 8 in
+    more (l % 256) (replicate 7 8) (l / 0x100 % 256 ∷ l / 0x1_0000 % 256 ∷ l / 0x100_0000 ∷ fourBytes h) (omega arith)
+    (more (l / 0x100 % 256) (replicate 6 8) (l / 0x1_0000 % 256 ∷ l / 0x100_0000 ∷ fourBytes h) (omega arith)
+    (more (l / 0x1_0000 % 256) (replicate 5 8) (l / 0x100_0000 ∷ fourBytes h) (omega arith)
+    (more (l / 0x100_0000) (replicate 4 8) (fourBytes h) (omega arith)
+    (more (h % 256) (replicate 3 8) (h / 0x100 % 256 ∷ h / 0x1_0000 % 256 ∷ h / 0x100_0000 ∷ []) (omega arith)
+    (more (h / 0x100 % 256) (replicate 2 8) (h / 0x1_0000 % 256 ∷ h / 0x100_0000 ∷ []) (omega arith)
+    (more (h / 0x1_0000 % 256) (replicate 1 8) (h / 0x100_0000 ∷ []) (omega arith)
+    (more (h / 0x100_0000) [] [] (omega arith) refl)))))))

@@ -31,8 +31,10 @@ use Rattle.report.specs.InterRoad.{interRoad}
 use Rattle.record.specs.declared.Service.{Service}
 use Rattle.record.specs.Services.{serviceFits}
 use Rattle.record.specs.Locations.{locationOf}
+use Rattle.record.proofs.Ranges.{within-next}
+use Rattle.record.proofs.StoredSets.{eight-within}
 use Rattle.record.proofs.ReportLocations.{location-foreign, location-home}
-use Rattle.record.specs.Layout.{groupsIn, expiryIn, eightBytes}
+use Rattle.record.specs.Layout.{groupsIn, expiryIn}
 use Rattle.record.specs.Classes.{setFits}
 use Rattle.record.specs.WellFormed.{widths, within, rangesFit, marked, complete, contentBits, spareIn, restFits, wellFormed}
 use Rattle.record_report.specs.Made.{tailBytes, marksFit, canMake, recordOf}
@@ -64,11 +66,7 @@ zero-after l m n h =
     ∙ ap allZero (drop-append-add l (zeros m) (n - length l))
     ∙ allZero-drop (n - length l) (zeros m) (allZero-zeros m)
 
--- one byte more that is in its range, and a byte of content
-within-next : (w x : ℕ) (ws xs : List ℕ) → x < 2 ^ w → within ws xs ≡ true → within (w ∷ ws) (x ∷ xs) ≡ true
-unfolding within
-within-next w x ws xs h e = ap₂ (λ (a b : Bool). a && b) (lt-ltb x (2 ^ w) h) e
-
+-- bytes of content that are in their range
 within-any : (n : ℕ) (xs ys ws : List ℕ) → length xs ≡ n → ((j : ℕ) → j < n → getD xs j 0 < 256) → within ws ys ≡ true → within (replicate n 8 ++ ws) (xs ++ ys) ≡ true
 within-any zero [] ys ws l h e = e
 within-any zero (x ∷ xs) ys ws l h e = absurd (omega arith)
@@ -157,9 +155,7 @@ module _ (r : Report) (s : Service) (set expiry : ℕ) (can : canMake r s set ex
       let its = listed (r .items) in
       let l = locationOf s r in
       let in-table = location-in in
-      let none : within [] [] ≡ true = unfold within in refl in
-      let bytes : within (drop 34 widths) (eightBytes set) ≡ true = within-next _ _ _ _ (omega arith) (within-next _ _ _ _ (omega arith) (within-next _ _ _ _ (omega arith) (within-next _ _ _ _ (omega arith) (within-next _ _ _ _ (omega arith) (within-next _ _ _ _ (omega arith) (within-next _ _ _ _ (omega arith) (within-next _ _ _ _ (omega arith) none))))))) in
-      let last : within (drop 30 widths) (tailBytes s l set) ≡ true = within-next _ _ _ _ (omega arith) (within-next _ _ _ _ (omega arith) (within-next _ _ _ _ (omega arith) (within-next _ _ _ _ (omega arith) bytes))) in
+      let last : within (drop 30 widths) (tailBytes s l set) ≡ true = within-next _ _ _ _ (omega arith) (within-next _ _ _ _ (omega arith) (within-next _ _ _ _ (omega arith) (within-next _ _ _ _ (omega arith) (eight-within set small)))) in
       let content = within-any 14 (bytesOf its) (tailBytes s l set) (drop 30 widths) (length-bytes its) (λ j k. byte-lt its j (its-short r (c .report-fits)) k) last in
       within-next _ _ _ _ (omega arith) (within-next _ _ _ _ (omega arith) (within-next _ _ _ _ (omega arith) (within-next _ _ _ _ (omega arith)
       (within-next _ _ _ _ (omega arith) (within-next _ _ _ _ (omega arith) (within-next _ _ _ _ (omega arith) (within-next _ _ _ _ (omega arith)

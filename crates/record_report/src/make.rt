@@ -41,7 +41,14 @@ fn marks_fit(service: Service, classes: Classes, expiry: Utc) -> bool
 }
 
 // Every byte but those of the content, from the first to the last.
-fn put_fields(r: &mut [u8], groups: u8, report: Report, service: Service, classes: Classes, expiry: Utc)
+fn put_fields(
+    r: &mut [u8],
+    groups: u8,
+    report: Report,
+    service: Service,
+    classes: Classes,
+    expiry: Utc,
+)
     requires { ⌜ length (now r) ≡ recordSize ⌝ }
     ensures { λ _. ⌜ now (r .exit) ≡ frontBytes groups report service (locationOf service report) (expiry .0) ++ (contentIn (now (r .entry)) ++ tailBytes service (locationOf service report) (classes .0)) ⌝ }
 {

@@ -1,3 +1,4 @@
 pub mod Classes
 pub mod Renewal
 pub mod Answers
+pub mod Current

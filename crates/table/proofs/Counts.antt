@@ -89,11 +89,24 @@ first-none p (r ∷ rs) h = by-test (p r) h (first-none p rs)
     by-test true k rest = absurd (omega arith)
     by-test false k rest = omega (arith, rest (omega arith))
 
--- a test holds of all records after a change that keeps it
-pub all-map : (p : List ℕ → Bool) (f : List ℕ → List ℕ) (rs : List (List ℕ)) → ((r : List ℕ) → p r ≡ true → p (f r) ≡ true) → allOf p rs ≡ true → allOf p (map f rs) ≡ true
+-- a test holds of all records if another does that says so of each
+pub all-within : (p q : List ℕ → Bool) (rs : List (List ℕ)) → ((r : List ℕ) → p r ≡ true → q r ≡ true) → allOf p rs ≡ true → allOf q rs ≡ true
 unfolding allOf
-all-map p f [] keeps h = refl
-all-map p f (r ∷ rs) keeps h = ap₂ (λ (a b : Bool). a && b) (keeps r (and-left (p r) (allOf p rs) h)) (all-map p f rs keeps (and-right (p r) (allOf p rs) h))
+all-within p q [] says h = refl
+all-within p q (r ∷ rs) says h = ap₂ (λ (a b : Bool). a && b) (says r (and-left (p r) (allOf p rs) h)) (all-within p q rs says (and-right (p r) (allOf p rs) h))
+
+-- two tests at once
+pub all-both : (p q : List ℕ → Bool) (rs : List (List ℕ)) → allOf p rs ≡ true → allOf q rs ≡ true → allOf (λ r. p r && q r) rs ≡ true
+unfolding allOf
+all-both p q [] h k = refl
+all-both p q (r ∷ rs) h k =
+    ap₂ (λ (a b : Bool). a && b) (ap₂ (λ (a b : Bool). a && b) (and-left (p r) (allOf p rs) h) (and-left (q r) (allOf q rs) k)) (all-both p q rs (and-right (p r) (allOf p rs) h) (and-right (q r) (allOf q rs) k))
+
+-- of records changed by a function, or where one is another
+pub all-map : (p : List ℕ → Bool) (f : List ℕ → List ℕ) (rs : List (List ℕ)) → allOf p (map f rs) ≡ allOf (λ r. p (f r)) rs
+unfolding allOf
+all-map p f [] = refl
+all-map p f (r ∷ rs) = ap (λ (b : Bool). p (f r) && b) (all-map p f rs)
 
 pub all-set : (p : List ℕ → Bool) (rs : List (List ℕ)) (i : ℕ) (r : List ℕ) → allOf p rs ≡ true → p r ≡ true → allOf p (set rs i r) ≡ true
 unfolding allOf

@@ -9,7 +9,7 @@ use lib.IntN.{ℤ}
 use lib.ListN.{length, set, getD, length-map}
 use lib.Seq.{getD-set-same, getD-set-other}
 use lib.Dec.{leb, eqb}
-use borrow.Author.Tests.{eq-eqb, ne-eqb, lt-leb}
+use borrow.Author.Tests.{eqb-true, eq-eqb, ne-eqb, lt-leb}
 use Rattle.bits.specs.Bits.{num}
 use Rattle.bits.proofs.Choice.{and-left, and-right, chosen, passed-over}
 use Rattle.content.specs.Stored.{limit}
@@ -42,7 +42,7 @@ use Rattle.table.specs.Steps.{afterMatching, placeIn, afterStoring}
 use Rattle.table.specs.Expire.{expireRefusal, expireTable}
 use Rattle.table.specs.Take.{matches, matchesOf, setFor, recordFor, takeRefusal, takenTable, takeTable}
 use Rattle.table.specs.Read.{recordAt}
-use Rattle.table.proofs.Counts.{count-map, count-none, count-set, all-map, all-set}
+use Rattle.table.proofs.Counts.{count-map, count-none, count-set, all-within, all-map, all-set}
 use Rattle.table.proofs.Sweeps.{length-records, length-over, records-over}
 use Rattle.table.proofs.Storing.{length-stored, records-stored}
 use Rattle.table.proofs.Freeing.{freed-either, freed-keeps, each-record, second-gone, length-both, records-both, both-at-once}
@@ -56,13 +56,13 @@ recordNo t i = getD (records t) i freeRecord
 
 -- a test that holds of every record and of a free one holds of every record after freeing, and after storing one that it holds of
 free-each : (p q : List ℕ → Bool) (t : List ℕ) → length t % recordSize ≡ 0 → p freeRecord ≡ true → allOf p (records t) ≡ true → allOf p (records (freeWhere q t)) ≡ true
-free-each p q t w free h = ap (allOf p) (records-over (freedIf q) (freed-keeps q) t w) ∙ all-map p (freedIf q) (records t) (λ r fit. freed-either q (λ x. p x ≡ true) r free fit) h
+free-each p q t w free h = ap (allOf p) (records-over (freedIf q) (freed-keeps q) t w) ∙ all-map p (freedIf q) (records t) ∙ all-within p (λ r. p (freedIf q r)) (records t) (λ r fit. freed-either q (λ x. p x ≡ true) r free fit) h
 
 stored-each : (p : List ℕ → Bool) (t r : List ℕ) (i : ℕ) → length t % recordSize ≡ 0 → i < length t / recordSize → length r ≡ recordSize → allOf p (records t) ≡ true → p r ≡ true → allOf p (records (stored t i r)) ≡ true
 stored-each p t r i w inside long h e = ap (allOf p) (records-stored t r i w inside long) ∙ all-set p (records t) i r h e
 
 -- a table of the same length whose records are well-formed
-fits-again : (s t : List ℕ) → length s ≡ length t → allOf wellFormed (records s) ≡ true → tableFits t ≡ true → tableFits s ≡ true
+pub fits-again : (s t : List ℕ) → length s ≡ length t → allOf wellFormed (records s) ≡ true → tableFits t ≡ true → tableFits s ≡ true
 unfolding tableFits sized
 fits-again s t e each h =
     ap₂ (λ (x y : Bool). x && y) (ap (λ (n : ℕ). leb recordSize n && (leb n (1024 * recordSize) && eqb (n % recordSize) 0)) e ∙ and-left (sized t) (allOf wellFormed (records t)) h) each
@@ -186,19 +186,22 @@ module _ (t c l : List ℕ) (last : ℕ) (a : Arrival) (lto : ℤ) where
           ∙ reading-back (a .report) (a .service) (setFor c (a .report)) (expiryFor c l a lto) sized (asked-report t c l last a lto (ok t c l last a lto fine .asked))
 
 -- Expiry alone keeps a well-formed table well-formed, and every test that holds of its records and of a free one.
-module _ (t : List ℕ) (last minute : ℕ) (fits : tableFits t ≡ true) where
-  expiry-keeps : (P : List ℕ → Type 0) → P t → P (freeWhere (expired minute) t) → P (expireTable t last minute)
-  unfolding expireTable
-  expiry-keeps P here freed = by-refusal (eqb (expireRefusal t last minute) 0) refl
+module _ (t : List ℕ) (last minute : ℕ) where
+  expiry-keeps : (P : List ℕ → Type 0) → P t → (tableFits t ≡ true → P (freeWhere (expired minute) t)) → P (expireTable t last minute)
+  unfolding expireTable expireRefusal
+  expiry-keeps P here freed = by-refusal (eqb (expireRefusal t last minute) 0) refl (tableFits t) refl
     where
-      by-refusal : (b : Bool) → eqb (expireRefusal t last minute) 0 ≡ b → P (expireTable t last minute)
-      by-refusal true e = subst P (sym (chosen _ _ _ e)) freed
-      by-refusal false e = subst P (sym (passed-over _ _ _ e)) here
+      by-refusal : (b : Bool) → eqb (expireRefusal t last minute) 0 ≡ b → (f : Bool) → tableFits t ≡ f → P (expireTable t last minute)
+      by-refusal true e true fits = subst P (sym (chosen _ _ _ e)) (freed fits)
+      by-refusal true e false fits = absurd (let z : 10 ≡ 0 = sym (passed-over _ _ _ fits) ∙ eqb-true (expireRefusal t last minute) 0 e in omega arith)
+      by-refusal false e f fits = subst P (sym (passed-over _ _ _ e)) here
 
   pub each-keeps-expiry : (p : List ℕ → Bool) → p freeRecord ≡ true → allOf p (records t) ≡ true → allOf p (records (expireTable t last minute)) ≡ true
-  each-keeps-expiry p free h = expiry-keeps (λ u. allOf p (records u) ≡ true) h (free-each p (expired minute) t (table-whole t fits) free h)
+  each-keeps-expiry p free h = expiry-keeps (λ u. allOf p (records u) ≡ true) h (λ fits. free-each p (expired minute) t (table-whole t fits) free h)
 
-  pub expire-keeps : tableFits (expireTable t last minute) ≡ true
-  expire-keeps =
-      fits-again (expireTable t last minute) t (expiry-keeps (λ u. length u ≡ length t) refl (length-over (freedIf (expired minute)) (freed-keeps (expired minute)) t (table-whole t fits)))
-      (each-keeps-expiry wellFormed free-fits (table-records t fits)) fits
+  pub expire-keeps : tableFits t ≡ true → tableFits (expireTable t last minute) ≡ true
+  expire-keeps fits =
+      fits-again (expireTable t last minute) t
+      (expiry-keeps (λ u. length u ≡ length t) refl (λ h. length-over (freedIf (expired minute)) (freed-keeps (expired minute)) t (table-whole t h)))
+      (each-keeps-expiry wellFormed free-fits (table-records t fits))
+      fits

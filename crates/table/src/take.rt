@@ -145,7 +145,14 @@ fn take_ordinary(
 }
 
 // Stores the record of a report in a place.
-fn put_at(t: &mut [u8], place: usize, report: Report, service: Service, classes: Classes, expiry: Utc)
+fn put_at(
+    t: &mut [u8],
+    place: usize,
+    report: Report,
+    service: Service,
+    classes: Classes,
+    expiry: Utc,
+)
     requires { ⌜ (length (now t) % recordSize ≡ 0) × (place < length (now t) / recordSize) × (canMake report service (classes .0) (expiry .0) ≡ true) ⌝ }
     ensures { λ _. ⌜ now (t .exit) ≡ stored (now (t .entry)) place (recordOf report service (classes .0) (expiry .0)) ⌝ }
 {
