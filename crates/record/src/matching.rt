@@ -6,7 +6,6 @@ ghost use Rattle.record.specs.Matching.{sameService, sameLocation, match
 use crate::Key;
 use crate::Record;
 use crate::Service;
-use crate::fields::classes;
 use crate::fields::two;
 use location::Location;
 
@@ -21,10 +20,10 @@ pub(crate) fn matches(r: &[u8], key: Key) -> bool
     }
     let service = key.service;
     let direction = key.direction;
-    let shared = key.classes;
+    let classes = key.classes;
     (r[Record::MARK] != 0)
         & (same_service(r, service)
-            & ((r[Record::DIRECTION] == direction) & shared.meets(classes(r))))
+            & ((r[Record::DIRECTION] == direction) & classes.meets(crate::fields::classes(r))))
 }
 
 // Whether the record's location is this one. The codes of most records differ, so they are compared first.

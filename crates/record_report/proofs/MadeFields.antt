@@ -14,7 +14,6 @@ use Rattle.report.specs.Record.{bytesOf, groupsOf}
 use Rattle.record.specs.declared.Service.{Service}
 use Rattle.record.specs.Locations.{locationOf, headLocation, realLocation}
 use Rattle.record.specs.Layout.{recordSize, byteAt, groupsIn, serviceIn, locationIn, headIn, realIn, expiryIn, contentIn, eightBytes, setAt, setIn}
-use Rattle.record.specs.declared.Key.{Key}
 use Rattle.record.specs.Classes.{meet}
 use Rattle.record.specs.Matching.{matching}
 use Rattle.record.proofs.StoredSets.{eight-back}

@@ -7,7 +7,7 @@ use mathlib.Core.List.{List, [], _∷_, _++_}
 use lib.ListN.{length, take, drop, getD, replicate, length-append, length-replicate, length-drop}
 use lib.Seq.{drop-append-add, length-take-le}
 use lib.Dec.{eqb, leb}
-use borrow.Author.Tests.{leb-true, le-leb, lt-ltb, ne-eqb}
+use borrow.Author.Tests.{leb-true, le-leb, ne-eqb}
 use Rattle.bits.specs.Bits.{val, allZero}
 use Rattle.bits.specs.Fields.{flat, words}
 use Rattle.bits.proofs.Choice.{and-left, and-right}

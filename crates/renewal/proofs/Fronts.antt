@@ -1,25 +1,20 @@
 -- What a record says but for its set stands in the bytes before the set: a record with another set says the same.
 use Prim.Native.Nat.{ℕ, _+_, _-_, _*_, _≤_, _<_}
 use native.Mathlib.Omega.{arith}
-use mathlib.Core.Path.{_≡_, refl, sym, ap, ap₂, _∙_}
-use mathlib.Core.Bool.{Bool, true, false, cond, _&&_, _||_, and-assoc}
-use mathlib.Core.List.{List, [], _∷_, _++_}
+use mathlib.Core.Path.{_≡_, sym, ap, ap₂, _∙_}
+use mathlib.Core.Bool.{cond, _&&_}
+use mathlib.Core.List.{List, _++_}
 use lib.ListN.{length, take, drop, getD, length-append, length-drop}
 use lib.Seq.{take-append-le, drop-append-le, take-at, getD-take}
 use lib.Dec.{eqb, leb}
 use Rattle.bits.specs.Fields.{flat}
-use Rattle.bits.specs.Outcome.{Outcome, gives, refused}
-use Rattle.word.specs.declared.Head.{Head}
+use Rattle.bits.specs.Outcome.{gives, refused}
 use Rattle.content.specs.Packing.{groupBits}
-use Rattle.location.specs.declared.Location.{Location}
-use Rattle.report.specs.declared.Report.{Report}
 use Rattle.report.specs.Report.{singleReport}
 use Rattle.report.specs.Read.{readItems}
-use Rattle.record.specs.declared.Service.{Service}
 use Rattle.record.specs.Locations.{headLocation, realLocation}
-use Rattle.record.specs.Layout.{recordSize, byteAt, twoAt, groupsIn, serviceIn, locationIn, headIn, realIn, expiryIn, eventIn, contentIn, setAt}
+use Rattle.record.specs.Layout.{recordSize, byteAt, twoAt, serviceIn, locationIn, headIn, expiryIn, eventIn, contentIn, setAt}
 use Rattle.record.specs.Gone.{oneRecord}
-use Rattle.record.specs.WellFormed.{groupsFit}
 use Rattle.record_report.specs.Reads.{withReal, messageIn, messageOf}
 
 module _ (f a b : List ℕ) (long : length f ≡ setAt) where

@@ -1,13 +1,13 @@
 -- One record renewed: it is as well-formed as it was, says the same, and its set is current.
-use Prim.Native.Nat.{ℕ, zero, suc, _+_, _-_, _*_, _/_, _%_, _^_, _≤_, _<_}
+use Prim.Native.Nat.{ℕ, zero, suc, _+_, _-_, _*_, _/_, _%_, _^_, _<_}
 use native.Mathlib.Omega.{arith}
-use mathlib.Core.Path.{_≡_, refl, sym, ap, ap₂, subst, _∙_}
+use mathlib.Core.Path.{_≡_, refl, sym, ap, ap₂, _∙_}
 use mathlib.Core.Bool.{Bool, true, false, cond, not, _&&_, _||_, and-assoc}
 use mathlib.Core.List.{List, [], _∷_, _++_}
 use lib.ListN.{length, take, drop, getD, replicate, length-drop, take-append-drop}
 use lib.Seq.{take-at, drop-at, getD-drop, length-take-le, ext-getD}
 use lib.Dec.{eqb, leb, ltb}
-use borrow.Author.Tests.{eqb-true, eq-eqb, ltb-true, lt-ltb}
+use borrow.Author.Tests.{eqb-true, eq-eqb, ltb-true}
 use Rattle.bits.specs.Bits.{allZero}
 use Rattle.bits.specs.Fields.{flat}
 use Rattle.bits.specs.Outcome.{Outcome, gives, refused, mapped, given}
@@ -31,7 +31,7 @@ use Rattle.renewal.specs.Classes.{messageClasses, classesIn, classed}
 use Rattle.renewal.specs.Renewal.{renewed}
 use Rattle.renewal.specs.Current.{current}
 use Rattle.renewal.proofs.Fronts.{same-byte, same-content, same-event, same-expiry, same-message}
-use Rattle.renewal.proofs.Renewals.{renewed-either, used-renewed}
+use Rattle.renewal.proofs.Renewals.{renewed-either}
 
 -- ranges by a place: those of the bytes before it, and of the others
 within-none : (ws : List ℕ) → within ws [] ≡ true

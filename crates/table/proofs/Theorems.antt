@@ -36,7 +36,7 @@ use Rattle.classes.specs.Keys.{keyOf}
 use Rattle.classes.proofs.ReportSets.{set-small}
 use Rattle.checks.specs.declared.Arrival.{Arrival}
 use Rattle.checks.specs.Events.{kindFor, expiryFor}
-use Rattle.checks.proofs.Checked.{asked-report, ends}
+use Rattle.checks.proofs.Checked.{asked-report}
 use Rattle.table.specs.Records.{countIf, freeWhere, stored}
 use Rattle.table.specs.Steps.{afterMatching, placeIn, afterStoring}
 use Rattle.table.specs.Expire.{expireRefusal, expireTable}

@@ -13,7 +13,6 @@ use Rattle.table.proofs.Counts.{count-le, num-le}
 use Rattle.table.proofs.Sweeps.{length-chunks, swept, swept-none, swept-all, counted-all, length-swept, part-sized, swept-next, count-next}
 use Rattle.renewal.specs.Renewal.{renewed}
 use Rattle.renewal.proofs.Renewals.{renewed-keeps}
-use borrow.Author.Needs.{needs}
 use Rattle.renewal.proofs.renew_records.Statement.{statement}
 use Rattle.renewal.proofs.renew_records.Tie as tie
 

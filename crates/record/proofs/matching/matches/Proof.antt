@@ -47,7 +47,7 @@ returns-2 c =
     let start = at-location .before .before .before in
     let a = start .args in
     let r = a .r .now in
-    let set : c .before .classes .result .0 ≡ setIn r = c .before .classes .ensures ∙ ap setIn (as-it-is r (start .pre)) in
+    let set : c .before .classes2 .result .0 ≡ setIn r = c .before .classes2 .ensures ∙ ap setIn (as-it-is r (start .pre)) in
     ap₂ (λ (s m : Bool). not (isFree r) && (s && (eqb (directionIn r) (a .key .direction) && m))) (c .before .before .before .same-service .ensures) (c .meets .ensures ∙ ap (meet (a .key .classes .0)) set)
     ∙ sym (by-location (a .key) r true (sym (at-location .same-location .ensures) ∙ not-false _ (c .before .before .before .before .before .before .before .if1 .left)))
 
