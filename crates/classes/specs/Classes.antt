@@ -3,6 +3,7 @@ use Prim.Native.Nat.{ℕ}
 use mathlib.Core.Bool.{cond}
 use mathlib.Core.List.{List, [], _∷_}
 use Rattle.report.specs.declared.Report.{Report}
+use Rattle.record.specs.Classes.{setOf}
 use Rattle.lent.specs.Catalogue.{entryAt, classOf, hasClass}
 use Rattle.classes.specs.Events.{eventsOf}
 
@@ -14,3 +15,7 @@ eventClasses catalogue (e ∷ es) = cond (hasClass (entryAt catalogue e)) (class
 -- of a report: those of all its events
 unfoldable pub classesOf : List ℕ → Report → List ℕ
 classesOf catalogue r = eventClasses catalogue (eventsOf r)
+
+-- as a set
+abbrev pub setFor : List ℕ → Report → ℕ
+setFor catalogue r = setOf (classesOf catalogue r)

@@ -5,10 +5,9 @@ use Rattle.report.specs.declared.Report.{Report}
 use Rattle.record.specs.declared.Service.{Service}
 use Rattle.record.specs.declared.Key.{Key}
 use Rattle.record.specs.Locations.{locationOf}
-use Rattle.record.specs.Classes.{setOf}
-use Rattle.classes.specs.Classes.{classesOf}
+use Rattle.classes.specs.Classes.{setFor}
 
 -- its service, location and direction, and the set of its classes
 abbrev pub keyOf : List ℕ → Service → Report → Key
 keyOf catalogue s x =
-    record { service = s; location = locationOf s x; direction = x .head .direction; classes = record { 0 = setOf (classesOf catalogue x) } }
+    record { service = s; location = locationOf s x; direction = x .head .direction; classes = record { 0 = setFor catalogue x } }

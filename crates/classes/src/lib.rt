@@ -6,7 +6,7 @@ ghost use Rattle.content.specs.declared.item.Item as declared;
 ghost use Rattle.content.specs.Stored.{limit, listed};
 ghost use Rattle.record.specs.Classes.{withClass, setOf};
 ghost use Rattle.classes.specs.Events.{additionalEvents};
-ghost use Rattle.classes.specs.Classes.{eventClasses, classesOf};
+ghost use Rattle.classes.specs.Classes.{eventClasses, setFor};
 use content::item::Item;
 use content::items::Items;
 use lent::catalogue::Entry;
@@ -18,7 +18,7 @@ const ADDITIONAL: u16 = 9;
 
 // The classes of a report: those of all its events.
 pub fn of_report(report: Report, catalogue: &[u16]) -> Classes
-    ensures { λ s. ⌜ s .0 ≡ setOf (classesOf (now (catalogue .entry)) report) ⌝ }
+    ensures { λ s. ⌜ s .0 ≡ setFor (now (catalogue .entry)) report ⌝ }
 {
     let head = report.head;
     let items = report.items;

@@ -26,14 +26,14 @@ use Rattle.lent.specs.Records.{chunks, records, allOf}
 use Rattle.lent.specs.Table.{tableFits}
 use Rattle.lent.specs.Catalogue.{catalogueFits}
 use Rattle.lent.proofs.Lents.{table-whole, table-records}
-use Rattle.classes.specs.Classes.{classesOf}
+use Rattle.classes.specs.Classes.{classesOf, setFor}
 use Rattle.classes.specs.Keys.{keyOf}
 use Rattle.classes.proofs.ReportSets.{set-small}
 use Rattle.checks.specs.declared.Arrival.{Arrival}
 use Rattle.checks.specs.Events.{kindFor, expiryFor}
 use Rattle.checks.proofs.Checked.{Checked, ends}
 use Rattle.table.specs.Effect.{usedIn}
-use Rattle.table.specs.Take.{setFor, recordFor, takeRefusal}
+use Rattle.table.specs.Take.{recordFor, takeRefusal}
 use Rattle.table.specs.Records.{over}
 use Rattle.table.proofs.Counts.{all-within, all-both, all-map}
 use Rattle.table.proofs.Sweeps.{length-over, records-over}

@@ -15,13 +15,14 @@ use Rattle.record.specs.Gone.{expired, either}
 use Rattle.record_report.specs.Made.{recordOf}
 use Rattle.record_report.proofs.MadeFields.{length-made}
 use Rattle.lent.proofs.Lents.{lent-whole}
+use Rattle.classes.specs.Classes.{setFor}
 use Rattle.classes.specs.Keys.{keyOf}
 use Rattle.checks.specs.declared.Arrival.{Arrival}
 use Rattle.checks.specs.Events.{kindFor, expiryFor}
 use Rattle.checks.specs.Checks.{checkRefusal}
 use Rattle.checks.proofs.Checked.{Checked, checked}
 use Rattle.table.specs.Steps.{afterMatching, placeIn, noRoom, afterStoring}
-use Rattle.table.specs.Take.{matches, matchesOf, setFor, recordFor, takeRefusal, takenTable, takeTable}
+use Rattle.table.specs.Take.{matches, matchesOf, recordFor, takeRefusal, takenTable, takeTable}
 use Rattle.table.proofs.Counts.{clash}
 use Rattle.table.proofs.Freeing.{length-both, whole-both}
 use Rattle.table.proofs.Takes.{refused-take, accepted-take}

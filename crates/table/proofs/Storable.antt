@@ -14,12 +14,13 @@ use Rattle.record.specs.WellFormed.{wellFormed}
 use Rattle.record_report.specs.Made.{canMake}
 use Rattle.record_report.proofs.MadeFits.{made-fits}
 use Rattle.lent.proofs.Lents.{lent-catalogue}
+use Rattle.classes.specs.Classes.{setFor}
 use Rattle.classes.proofs.ReportSets.{set-small, set-fits}
 use Rattle.checks.specs.declared.Arrival.{Arrival}
 use Rattle.checks.specs.Events.{kindFor, expiryFor}
 use Rattle.checks.specs.Checks.{askedFit}
 use Rattle.checks.proofs.Checked.{Checked, asked-report, ends}
-use Rattle.table.specs.Take.{setFor, recordFor}
+use Rattle.table.specs.Take.{recordFor}
 
 module _ (t c l : List ℕ) (last : ℕ) (a : Arrival) (lto : ℤ) (ok : Checked t c l last a lto) where
   pub can-make : kindFor c (a .report) ≡ 1 → canMake (a .report) (a .service) (setFor c (a .report)) (expiryFor c l a lto) ≡ true

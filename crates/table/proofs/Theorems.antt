@@ -32,6 +32,7 @@ use Rattle.record_report.proofs.WayBack.{reading-back}
 use Rattle.lent.specs.Records.{records, allOf}
 use Rattle.lent.specs.Table.{sized, tableFits}
 use Rattle.lent.proofs.Lents.{table-whole, table-records, lent-table}
+use Rattle.classes.specs.Classes.{setFor}
 use Rattle.classes.specs.Keys.{keyOf}
 use Rattle.classes.proofs.ReportSets.{set-small}
 use Rattle.checks.specs.declared.Arrival.{Arrival}
@@ -40,7 +41,7 @@ use Rattle.checks.proofs.Checked.{asked-report}
 use Rattle.table.specs.Records.{countIf, freeWhere, stored}
 use Rattle.table.specs.Steps.{afterMatching, placeIn, afterStoring}
 use Rattle.table.specs.Expire.{expireRefusal, expireTable}
-use Rattle.table.specs.Take.{matches, matchesOf, setFor, recordFor, takeRefusal, takenTable, takeTable}
+use Rattle.table.specs.Take.{matches, matchesOf, recordFor, takeRefusal, takenTable, takeTable}
 use Rattle.table.specs.Read.{recordAt}
 use Rattle.table.proofs.Counts.{count-map, count-none, count-set, all-within, all-map, all-set}
 use Rattle.table.proofs.Sweeps.{length-records, length-over, records-over}

@@ -4,11 +4,9 @@ use mathlib.Core.Bool.{Bool, cond, _&&_, _||_}
 use mathlib.Core.List.{List}
 use lib.IntN.{ℤ}
 use lib.Dec.{eqb}
-use Rattle.report.specs.declared.Report.{Report}
-use Rattle.record.specs.Classes.{setOf}
 use Rattle.record.specs.Matching.{matching}
 use Rattle.record_report.specs.Made.{recordOf}
-use Rattle.classes.specs.Classes.{classesOf}
+use Rattle.classes.specs.Classes.{setFor}
 use Rattle.classes.specs.Keys.{keyOf}
 use Rattle.checks.specs.declared.Arrival.{Arrival}
 use Rattle.checks.specs.Events.{kindFor, expiryFor}
@@ -24,10 +22,6 @@ matches kind match r = (eqb kind 1 || eqb kind 2) && match r
 -- those that match the report
 abbrev pub matchesOf : List ℕ → Arrival → List ℕ → Bool
 matchesOf catalogue a = matches (kindFor catalogue (a .report)) (matching (keyOf catalogue (a .service) (a .report)))
-
--- the set of its classes
-abbrev pub setFor : List ℕ → Report → ℕ
-setFor catalogue r = setOf (classesOf catalogue r)
 
 -- the record to be stored, with the set of its classes, which ends by its life
 abbrev pub recordFor : (catalogue lives : List ℕ) → Arrival → ℤ → List ℕ

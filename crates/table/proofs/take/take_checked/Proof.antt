@@ -20,13 +20,13 @@ use Rattle.record.specs.Matching.{matching}
 use Rattle.record_report.specs.Made.{recordOf, canMake}
 use Rattle.lent.specs.Catalogue.{kindOf, typeOf}
 use Rattle.lent.proofs.Lents.{lent-whole}
+use Rattle.classes.specs.Classes.{setFor}
 use Rattle.classes.specs.Keys.{keyOf}
 use Rattle.checks.specs.declared.Arrival.{Arrival}
 use Rattle.checks.specs.Events.{entryFor, kindFor, expiryFor}
 use Rattle.checks.proofs.Checked.{Checked, checked, life-inside, expiry-is, kinds}
 use Rattle.table.specs.declared.Answer.the-variants.{Freed, Stored, Refused}
 use Rattle.table.specs.Steps.{step, expiredIn, afterMatching, matchedIn, placeIn, noRoom, afterStoring}
-use Rattle.table.specs.Take.{setFor}
 use Rattle.table.proofs.Storable.{can-make}
 use Rattle.table.proofs.Takes.{null-way, cancelling-way, ordinary-way}
 use borrow.Author.Needs.{needs}
