@@ -34,11 +34,11 @@ module _ (f a b : List ℕ) (long : length f ≡ setAt) where
   pub same-content : contentIn (f ++ a) ≡ contentIn (f ++ b)
   same-content = content-front a ∙ sym (content-front b)
 
-  two-same : (j : ℕ) → j + 1 < setAt → twoAt (f ++ a) j ≡ twoAt (f ++ b) j
-  two-same j h = let x = same-byte j (omega arith) in let y = same-byte (j + 1) h in λ i. x i + 0x100 * y i
+  same-two : (j : ℕ) → j + 1 < setAt → twoAt (f ++ a) j ≡ twoAt (f ++ b) j
+  same-two j h = let x = same-byte j (omega arith) in let y = same-byte (j + 1) h in λ i. x i + 0x100 * y i
 
   pub same-event : eventIn (f ++ a) ≡ eventIn (f ++ b)
-  same-event = two-same 6 (omega arith)
+  same-event = same-two 6 (omega arith)
 
   pub same-expiry : expiryIn (f ++ a) ≡ expiryIn (f ++ b)
   same-expiry =
@@ -48,37 +48,37 @@ module _ (f a b : List ℕ) (long : length f ≡ setAt) where
       let z = same-byte 15 (omega arith) in
       λ i. w i + 0x100 * x i + 0x1_0000 * y i + 0x100_0000 * z i
 
-  service-same : serviceIn (f ++ a) ≡ serviceIn (f ++ b)
-  service-same =
+  same-service : serviceIn (f ++ a) ≡ serviceIn (f ++ b)
+  same-service =
       let country = same-byte 31 (omega arith) in
       let ltn = same-byte 3 (omega arith) in
       let sid = same-byte 2 (omega arith) in
       λ i. record { country = country i; ltn = ltn i; sid = sid i }
 
-  location-same : locationIn (f ++ a) ≡ locationIn (f ++ b)
-  location-same =
+  same-location : locationIn (f ++ a) ≡ locationIn (f ++ b)
+  same-location =
       let country = same-byte 32 (omega arith) in
       let ltn = same-byte 33 (omega arith) in
-      let code = two-same 4 (omega arith) in
+      let code = same-two 4 (omega arith) in
       λ i. record { country = country i; ltn = ltn i; code = code i }
 
-  head-same : headIn (f ++ a) ≡ headIn (f ++ b)
-  head-same =
+  same-head : headIn (f ++ a) ≡ headIn (f ++ b)
+  same-head =
       let direction = same-byte 8 (omega arith) in
       let extent = same-byte 9 (omega arith) in
-      let location = ap₂ headLocation service-same location-same in
+      let location = ap₂ headLocation same-service same-location in
       λ i. record { direction = direction i; extent = extent i; event = same-event i; location = location i }
 
-  message-same : messageIn (f ++ a) ≡ messageIn (f ++ b)
+  same-message-in : messageIn (f ++ a) ≡ messageIn (f ++ b)
   unfolding messageIn
-  message-same =
+  same-message-in =
       let groups = same-byte 1 (omega arith) in
       let diversion = same-byte 10 (omega arith) in
       let duration = same-byte 11 (omega arith) in
-      let real = ap₂ realLocation service-same location-same in
+      let real = ap₂ realLocation same-service same-location in
       λ i.
-      cond (eqb (groups i) 1) (gives (withReal (real i) (singleReport (duration i) (diversion i) (head-same i))))
-      (readItems (head-same i) (real i) (take (groupBits * (groups i - 1)) (flat 8 (same-content i))))
+      cond (eqb (groups i) 1) (gives (withReal (real i) (singleReport (duration i) (diversion i) (same-head i))))
+      (readItems (same-head i) (real i) (take (groupBits * (groups i - 1)) (flat 8 (same-content i))))
 
   -- and the same message
   pub same-message : length a ≡ length b → messageOf (f ++ a) ≡ messageOf (f ++ b)
@@ -86,4 +86,4 @@ module _ (f a b : List ℕ) (long : length f ≡ setAt) where
   same-message e =
       let size : length (f ++ a) ≡ length (f ++ b) = length-append f a ∙ ap (λ (n : ℕ). length f + n) e ∙ sym (length-append f b) in
       let groups = same-byte 1 (omega arith) in
-      λ i. cond (eqb (size i) recordSize && (leb 1 (groups i) && leb (groups i) 5)) (message-same i) (refused 10)
+      λ i. cond (eqb (size i) recordSize && (leb 1 (groups i) && leb (groups i) 5)) (same-message-in i) (refused 10)

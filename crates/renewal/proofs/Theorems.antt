@@ -140,9 +140,9 @@ module _ (c t lives : List ℕ) (last : ℕ) (a : Arrival) (lto : ℤ) (sized : 
 
 -- A current record matches by its set if it does by its events.
 module _ (c r : List ℕ) where
-  pub own-set : current c r ≡ true → isFree r ≡ false → setIn r ≡ setOf (classesIn c r)
+  pub current-set : current c r ≡ true → isFree r ≡ false → setIn r ≡ setOf (classesIn c r)
   unfolding current
-  own-set h used = eqb-true (setIn r) (setOf (classesIn c r)) (sym (ap (λ (b : Bool). b || eqb (setIn r) (setOf (classesIn c r))) used) ∙ h)
+  current-set h used = eqb-true (setIn r) (setOf (classesIn c r)) (sym (ap (λ (b : Bool). b || eqb (setIn r) (setOf (classesIn c r))) used) ∙ h)
 
   current-matches : (s : Service) (x : Report) → current c r ≡ true → matching (keyOf c s x) r ≡ matchingByEvents c s x r
   unfolding matching matchingByEvents
@@ -153,7 +153,7 @@ module _ (c r : List ℕ) where
 
       by-mark : (b : Bool) → isFree r ≡ b → not (isFree r) && rest (meet (setOf (classesOf c x)) (setIn r)) ≡ not (isFree r) && rest (share (classesOf c x) (classesIn c r))
       by-mark true free = ap (λ (b : Bool). not b && rest (meet (setOf (classesOf c x)) (setIn r))) free ∙ sym (ap (λ (b : Bool). not b && rest (share (classesOf c x) (classesIn c r))) free)
-      by-mark false used = ap (λ (b : Bool). not (isFree r) && rest b) (ap (meet (setOf (classesOf c x))) (own-set h used) ∙ sets-share (classesOf c x) (classesIn c r))
+      by-mark false used = ap (λ (b : Bool). not (isFree r) && rest b) (ap (meet (setOf (classesOf c x))) (current-set h used) ∙ sets-share (classesOf c x) (classesIn c r))
 
 -- Every table that the calls make with one catalogue.
 module _ (c : List ℕ) where
@@ -179,7 +179,7 @@ module _ (c : List ℕ) where
   module _ (t : List ℕ) (made : Made c t) where
     -- a used record's set is what its events and the catalogue give
     pub set-is : (i : ℕ) → isFree (recordNo t i) ≡ false → setIn (recordNo t i) ≡ setOf (classesIn c (recordNo t i))
-    set-is i used = own-set c (recordNo t i) (each-one (current c) (records t) i (always t made .1) (free-current c freeRecord refl)) used
+    set-is i used = current-set c (recordNo t i) (each-one (current c) (records t) i (always t made .1) (free-current c freeRecord refl)) used
 
     -- renewing with the same catalogue changes nothing, and a well-formed table is not refused
     pub changes-nothing : renewTable t c ≡ t
