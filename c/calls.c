@@ -1036,15 +1036,16 @@ static void table(void) {
         0,    1,    1,  17, 0x20, 0,    0,    0, 0, 0, 0, 0};         /* class 5 */
     struct alertc_table_answer t =
         alertc_table_take(bytes, sizeof bytes, catalogue, ALERTC_EVENTS, lives, ALERTC_LIVES,
-                          &clock, report_101(), service, 100, 0);
+                          &clock, report_101(), service, 100, 0, ALERTC_DROP);
     SAME(t.refusal, ALERTC_ACCEPTED);
     SAME(t.stored, 1);
+    SAME(t.dropped, 0);
     SAME(t.place, 0);
     SAME(t.expired, 0);
     SAME(t.matched, 0);
     SAME(clock, 100);
     t = alertc_table_take(bytes, sizeof bytes, catalogue, ALERTC_EVENTS, lives, ALERTC_LIVES,
-                          &clock, report_401(), service, 100, 2);
+                          &clock, report_401(), service, 100, 2, ALERTC_DROP);
     SAME(t.stored, 1);
     SAME(t.place, 1);
     SAME_BYTES(bytes, records, sizeof bytes);
@@ -1076,41 +1077,41 @@ static void table(void) {
     elsewhere.location = 0xFBFF;
     unfit.sid = 64;
     SAME(alertc_table_take(bytes, sizeof bytes, catalogue, ALERTC_EVENTS - 1, lives, ALERTC_LIVES,
-                           &clock, report_101(), service, 101, 0)
+                           &clock, report_101(), service, 101, 0, ALERTC_DROP)
              .refusal,
          ALERTC_REFUSED_MALFORMED);
     SAME(alertc_table_take(bytes, sizeof bytes, catalogue, ALERTC_EVENTS, lives, ALERTC_LIVES - 1,
-                           &clock, report_101(), service, 101, 0)
+                           &clock, report_101(), service, 101, 0, ALERTC_DROP)
              .refusal,
          ALERTC_REFUSED_MALFORMED);
     SAME(alertc_table_take(bytes, sizeof bytes, catalogue, ALERTC_EVENTS, lives, ALERTC_LIVES,
-                           &clock, other, service, 101, 0)
+                           &clock, other, service, 101, 0, ALERTC_DROP)
              .refusal,
          ALERTC_REFUSED_UNFIT);
     SAME(alertc_table_take(bytes, sizeof bytes, catalogue, ALERTC_EVENTS, lives, ALERTC_LIVES,
-                           &clock, report_101(), unfit, 101, 0)
+                           &clock, report_101(), unfit, 101, 0, ALERTC_DROP)
              .refusal,
          ALERTC_REFUSED_UNFIT);
     SAME(alertc_table_take(bytes, sizeof bytes, catalogue, ALERTC_EVENTS, lives, ALERTC_LIVES,
-                           &clock, report_101(), service, 101, -32)
+                           &clock, report_101(), service, 101, -32, ALERTC_DROP)
              .refusal,
          ALERTC_REFUSED_UNFIT);
     SAME(alertc_table_take(bytes, sizeof bytes, catalogue, ALERTC_EVENTS, lives, ALERTC_LIVES,
-                           &clock, report_101(), service, 99, 0)
+                           &clock, report_101(), service, 99, 0, ALERTC_DROP)
              .refusal,
          ALERTC_REFUSED_MINUTE);
     SAME(alertc_table_take(bytes, sizeof bytes, catalogue, ALERTC_EVENTS, lives, ALERTC_LIVES,
-                           &clock, foreign, service, 101, 0)
+                           &clock, foreign, service, 101, 0, ALERTC_DROP)
              .refusal,
          ALERTC_REFUSED_LOCATION);
     SAME(alertc_table_take(bytes, sizeof bytes, catalogue, ALERTC_EVENTS, lives, ALERTC_LIVES,
-                           &clock, unknown, service, 101, 0)
+                           &clock, unknown, service, 101, 0, ALERTC_DROP)
              .refusal,
          ALERTC_REFUSED_EVENT);
     t = alertc_table_take(bytes, sizeof bytes, catalogue, ALERTC_EVENTS, lives, ALERTC_LIVES,
-                          &clock, elsewhere, service, 101, 0);
+                          &clock, elsewhere, service, 101, 0, ALERTC_KEEP);
     SAME(t.refusal, ALERTC_REFUSED_NO_ROOM);
-    SAME(t.stored | t.place | t.expired | t.matched, 0);
+    SAME(t.stored | t.dropped | t.place | t.expired | t.matched, 0);
     SAME(alertc_table_expire(bytes, sizeof bytes, &clock, 99).refusal, ALERTC_REFUSED_MINUTE);
     SAME(alertc_table_expire(bytes, sizeof bytes, &clock, ALERTC_LARGEST_MINUTE + 1).refusal,
          ALERTC_REFUSED_MINUTE);
@@ -1129,14 +1130,14 @@ static void table(void) {
     uint32_t copy_clock = clock;
     memcpy(copy, bytes, sizeof copy);
     t = alertc_table_take(copy, sizeof copy, catalogue, ALERTC_EVENTS, lives, ALERTC_LIVES,
-                          &copy_clock, cancelling, service, 159, 0);
+                          &copy_clock, cancelling, service, 159, 0, ALERTC_DROP);
     SAME(t.refusal, ALERTC_ACCEPTED);
     SAME(t.matched, 1);
     SAME(t.stored, 0);
     SAME(alertc_table_read(copy, sizeof copy, 0).used, 0);
     t = alertc_table_expire(bytes, sizeof bytes, &clock, 160);
     SAME(t.expired, 1);
-    SAME(t.matched | t.stored | t.place, 0);
+    SAME(t.matched | t.stored | t.dropped | t.place, 0);
     SAME(clock, 160);
     r = alertc_table_read(bytes, sizeof bytes, 0);
     SAME(r.refusal, ALERTC_ACCEPTED);
@@ -1168,14 +1169,17 @@ static void table(void) {
     SAME(alertc_expiry(ALERTC_LARGEST_MINUTE + 1, 31, 0).refusal, ALERTC_REFUSED_MINUTE);
 }
 
-/* A table with room for three records, its clock and its catalogue. */
+/* A table with room for three records, how many bytes of it a take is lent, its clock and its
+ * catalogue. */
 static uint8_t small_table[3 * ALERTC_RECORD_BYTES];
+static size_t small_len;
 static uint32_t small_clock;
 static uint16_t small_catalogue[ALERTC_EVENTS];
 
-/* Empty, with the clock at its start and a catalogue of a few events. */
+/* Empty and lent whole, with the clock at its start and a catalogue of a few events. */
 static void small_start(void) {
     memset(small_table, 0, sizeof small_table);
+    small_len = sizeof small_table;
     small_clock = 0;
     memset(small_catalogue, 0, sizeof small_catalogue);
     small_catalogue[101] = small_catalogue[401] = ALERTC_CATALOGUE_ENTRY(9, 1, 0);
@@ -1189,28 +1193,44 @@ static void small_start(void) {
 }
 
 static struct alertc_table_answer storing(size_t expired, size_t matched, size_t place) {
-    struct alertc_table_answer t = {expired, matched, place, 1, ALERTC_ACCEPTED};
+    struct alertc_table_answer t = {expired, matched, place, 1, 0, ALERTC_ACCEPTED};
     return t;
 }
 
 static struct alertc_table_answer freeing(size_t expired, size_t matched) {
-    struct alertc_table_answer t = {expired, matched, 0, 0, ALERTC_ACCEPTED};
+    struct alertc_table_answer t = {expired, matched, 0, 0, 0, ALERTC_ACCEPTED};
     return t;
 }
 
 static struct alertc_table_answer refusing(uint8_t refusal) {
-    struct alertc_table_answer t = {0, 0, 0, 0, refusal};
+    struct alertc_table_answer t = {0, 0, 0, 0, 0, refusal};
     return t;
 }
 
-#define TAKE(report, minute, answer) take(__LINE__, report, minute, answer)
+static struct alertc_table_answer dropping(size_t place) {
+    struct alertc_table_answer t = {0, 0, place, 1, 1, ALERTC_ACCEPTED};
+    return t;
+}
+
+/* How many records of such a table are used. */
+static size_t used_in(const uint8_t *table) {
+    size_t used = 0;
+    for (size_t at = 0; at < sizeof small_table; at += ALERTC_RECORD_BYTES) {
+        used += table[at];
+    }
+    return used;
+}
+
+#define TAKE_WHEN(when_full, report, minute, answer)                                               \
+    take_when(__LINE__, when_full, report, minute, answer)
 
 /*
  * A report of the service with SID 3 in country 13, whose location table is 17, has this answer at
- * a minute. A refusal leaves the table and the clock.
+ * a minute, under this choice. A refusal leaves the table and the clock; else each record that was
+ * freed or dropped is counted.
  */
-static void take(int line, struct alertc_report report, uint32_t minute,
-                 struct alertc_table_answer answer) {
+static void take_when(int line, uint8_t when_full, struct alertc_report report, uint32_t minute,
+                      struct alertc_table_answer answer) {
     const struct alertc_service service = {13, 17, 3};
     const uint32_t clock_before = small_clock;
     uint8_t table_before[sizeof small_table];
@@ -1218,19 +1238,38 @@ static void take(int line, struct alertc_report report, uint32_t minute,
     lives[2] = 60;
     memcpy(table_before, small_table, sizeof table_before);
     struct alertc_table_answer t =
-        alertc_table_take(small_table, sizeof small_table, small_catalogue, ALERTC_EVENTS, lives,
-                          ALERTC_LIVES, &small_clock, report, service, minute, 0);
+        alertc_table_take(small_table, small_len, small_catalogue, ALERTC_EVENTS, lives,
+                          ALERTC_LIVES, &small_clock, report, service, minute, 0, when_full);
     same(line, "expired", t.expired, answer.expired);
     same(line, "matched", t.matched, answer.matched);
     same(line, "place", t.place, answer.place);
     same(line, "stored", t.stored, answer.stored);
+    same(line, "dropped", t.dropped, answer.dropped);
     same(line, "refusal", t.refusal, answer.refusal);
     if (answer.refusal == ALERTC_ACCEPTED) {
         same(line, "clock", small_clock, minute);
+        same(line, "records", used_in(small_table) + t.expired + t.matched + t.dropped,
+             used_in(table_before) + t.stored);
     } else {
         same(line, "clock", small_clock, clock_before);
         same_bytes(line, "table", small_table, table_before, sizeof small_table);
     }
+}
+
+#define TAKE(report, minute, answer) take(__LINE__, report, minute, answer)
+
+/* It has this answer under both choices, and they make the same of the table. */
+static void take(int line, struct alertc_report report, uint32_t minute,
+                 struct alertc_table_answer answer) {
+    const uint32_t clock_before = small_clock;
+    uint8_t table_before[sizeof small_table], table_kept[sizeof small_table];
+    memcpy(table_before, small_table, sizeof table_before);
+    take_when(line, ALERTC_KEEP, report, minute, answer);
+    memcpy(table_kept, small_table, sizeof table_kept);
+    memcpy(small_table, table_before, sizeof table_before);
+    small_clock = clock_before;
+    take_when(line, ALERTC_DROP, report, minute, answer);
+    same_bytes(line, "table", small_table, table_kept, sizeof small_table);
 }
 
 #define RENEWED(used) renew(__LINE__, used, ALERTC_ACCEPTED)
@@ -1339,7 +1378,7 @@ static void border(void) {
     TAKE(single, 99, refusing(ALERTC_REFUSED_MINUTE));
     TAKE(real, 100, refusing(ALERTC_REFUSED_LOCATION));
     TAKE(real, 99, refusing(ALERTC_REFUSED_MINUTE));
-    TAKE(last, 100, refusing(ALERTC_REFUSED_NO_ROOM));
+    TAKE_WHEN(ALERTC_KEEP, last, 100, refusing(ALERTC_REFUSED_NO_ROOM));
     TAKE(unplaced, 100, refusing(ALERTC_REFUSED_UNFIT));
     TAKE(with_items_14(real, 25), 99, refusing(ALERTC_REFUSED_UNFIT));
     single.event = real.event = last.event = 102;
@@ -1470,13 +1509,21 @@ static void alone(const uint8_t *record) {
     memcpy(small_table, record, ALERTC_RECORD_BYTES);
 }
 
-/* Takes that a full table refuses, each for the first of its reasons; if malformed, with 10. */
+/* A report of 201 alone at a location. */
+static struct alertc_report accident_at(uint16_t location) {
+    struct alertc_report r = report_of(201);
+    r.location = location;
+    return r;
+}
+
+/*
+ * Takes that a full table refuses, each for the first of its reasons; if malformed, with 10. The
+ * last is refused under ALERTC_KEEP alone. With a number that is no choice all are refused.
+ */
 static void refused_when_full(int line, int malformed) {
-    struct alertc_report unfit = report_of(1000), foreign = report_of(1000),
-                         unknown = report_of(1000), elsewhere = report_of(201);
+    struct alertc_report unfit = report_of(1000), foreign = report_of(1000);
     unfit.form = 2;
     unfit.location = foreign.location = ALERTC_FLT_CODES;
-    elsewhere.location = 501;
     const struct {
         struct alertc_report report;
         uint32_t minute;
@@ -1484,11 +1531,21 @@ static void refused_when_full(int line, int malformed) {
     } takes[] = {{unfit, 99, ALERTC_REFUSED_UNFIT},
                  {foreign, 99, ALERTC_REFUSED_MINUTE},
                  {foreign, 100, ALERTC_REFUSED_LOCATION},
-                 {unknown, 100, ALERTC_REFUSED_EVENT},
-                 {elsewhere, 100, ALERTC_REFUSED_NO_ROOM}};
+                 {report_of(1000), 100, ALERTC_REFUSED_EVENT},
+                 {accident_at(501), 100, ALERTC_REFUSED_NO_ROOM}};
+    const uint8_t choices[] = {ALERTC_DROP, ALERTC_KEEP, 2, 255};
     for (size_t i = 0; i < sizeof takes / sizeof takes[0]; i++) {
-        take(line, takes[i].report, takes[i].minute,
-             refusing(malformed ? (uint8_t)ALERTC_REFUSED_MALFORMED : takes[i].refusal));
+        for (size_t k = 0; k < sizeof choices; k++) {
+            uint8_t refusal = takes[i].refusal;
+            if (malformed) {
+                refusal = ALERTC_REFUSED_MALFORMED;
+            } else if (choices[k] > ALERTC_KEEP) {
+                refusal = ALERTC_REFUSED_UNFIT;
+            } else if (choices[k] == ALERTC_DROP && refusal == ALERTC_REFUSED_NO_ROOM) {
+                continue;
+            }
+            take_when(line, choices[k], takes[i].report, takes[i].minute, refusing(refusal));
+        }
     }
 }
 
@@ -1514,7 +1571,7 @@ static void malformed(int line, const uint8_t *record) {
             struct alertc_table_answer t =
                 alertc_table_expire(small_table, sizeof small_table, &small_clock, minutes[i]);
             same(line, "refusal", t.refusal, ALERTC_REFUSED_MALFORMED);
-            same(line, "answer", t.expired | t.matched | t.place | t.stored, 0);
+            same(line, "answer", t.expired | t.matched | t.place | t.stored | t.dropped, 0);
             same(line, "clock", small_clock, 100);
         }
         for (size_t i = 0; i <= 3; i++) {
@@ -1533,7 +1590,7 @@ static void malformed(int line, const uint8_t *record) {
 /*
  * With this record among the others of a full table a renewal is refused (10), until it is gone. A
  * take is not: it has its other refusals, and matches by the set, which is that of the others. The
- * record is read, or refused, as given, and expires.
+ * record is read, or refused, as given, expires, and is dropped if it is the one to expire soonest.
  */
 static void taken_not_renewed(int line, const uint8_t *record, uint8_t reading) {
     const int elsewhere = record[4] != accident[4];
@@ -1580,6 +1637,14 @@ static void taken_not_renewed(int line, const uint8_t *record, uint8_t reading) 
         memcpy(at, record, ALERTC_RECORD_BYTES);
         take(line, report_of(201), 160, storing(3, 0, 0));
         renew(line, 1, ALERTC_ACCEPTED);
+
+        /* Dropped, it gives its place to a report at another location. */
+        all_accidents();
+        memcpy(at, record, ALERTC_RECORD_BYTES);
+        at[12] = 159;
+        take_when(line, ALERTC_DROP, accident_at(501), 100, dropping(place));
+        kept(line, place, accident_at(501));
+        renew(line, 3, ALERTC_ACCEPTED);
     }
 }
 
@@ -2015,6 +2080,249 @@ static void renewals(void) {
     SAME(memcmp(large, large_before, sizeof large), 0);
 }
 
+/* At minute 20, as many accidents as a take is lent places, at 501 and on, with these expiries. */
+static void full_of(size_t places, const uint32_t *expiries) {
+    small_start();
+    small_len = places * ALERTC_RECORD_BYTES;
+    small_clock = 20;
+    for (size_t place = 0; place < places; place++) {
+        uint8_t *record = small_table + place * ALERTC_RECORD_BYTES;
+        memcpy(record, accident, sizeof accident);
+        record[4] = (uint8_t)(0xF5 + place);
+        for (size_t i = 0; i < 4; i++) {
+            record[12 + i] = (uint8_t)(expiries[place] >> 8 * i);
+        }
+    }
+}
+
+/* A full table drops the record that expires soonest, or keeps all. */
+static void full_tables(void) {
+    SAME(ALERTC_DROP, 0);
+    SAME(ALERTC_KEEP, 1);
+
+    /* The record of 201 at 500, taken at minute 30. */
+    uint8_t newest[ALERTC_RECORD_BYTES] = {
+        1,    1,    3,    17, /* used, groups, SID, LTN */
+        0xF4, 0x01, 0xC9, 0,  /* location, event */
+        0,    1,    0,    2,  /* direction, extent, diversion, duration */
+        90,   0,    0,    0,  /* expiry */
+        0,    0,    0,    0,  0, 0, 0, 0, 0, 0, 0, 0, 0, 0, /* content */
+        0,    13,                                           /* byte 30, country */
+        13,   17,                                           /* the location's country and LTN */
+        0x20, 0,    0,    0,  0, 0, 0, 0};                  /* class 5 */
+    const struct alertc_report newest_report = report_of(201);
+    uint8_t expected[sizeof small_table];
+
+    /* The two worked tables; the report expires before all others, with them and after them. Ties;
+     * the minute after the call's; expiries that differ in one byte or in their bytes' order; the
+     * largest; one record. */
+    const struct {
+        size_t places;
+        uint32_t expiries[3];
+        size_t dropped;
+    } tables[] = {
+        {2, {100, 100, 0}, 0},
+        {2, {120, 90, 0}, 1},
+        {2, {90, 120, 0}, 0},
+        {3, {90, 90, 90}, 0},
+        {3, {80, 90, 100}, 0},
+        {3, {100, 80, 90}, 1},
+        {3, {90, 100, 80}, 2},
+        {3, {101, 100, 100}, 1},
+        {3, {100, 101, 100}, 0},
+        {3, {100, 100, 101}, 0},
+        {3, {32, 33, 31}, 2},
+        {3, {31, 31, 31}, 0},
+        {3, {256, 255, 257}, 1},
+        {3, {0x10000, 0xFF00, 0x1000000}, 1},
+        {3, {0x01000001, 0x02000000, 0x00FFFFFF}, 2},
+        {3, {0x7FFFFFFF, 0x80000000, 0xFFFFFFFF}, 0},
+        {3, {0xFFFFFFFF, 0x80000000, 0x7FFFFFFF}, 2},
+        {3, {0xFFFFFFFF, 0xFFFFFFFF, 0xFFFFFFFF}, 0},
+        {3, {0xFFFFFFFF, 0xFFFFFFFF, 0xFFFFFFFE}, 2},
+        {1, {100, 0, 0}, 0},
+        {1, {31, 0, 0}, 0},
+        {1, {0xFFFFFFFF, 0, 0}, 0},
+    };
+    for (size_t i = 0; i < sizeof tables / sizeof tables[0]; i++) {
+        const size_t at = tables[i].dropped * ALERTC_RECORD_BYTES;
+        full_of(tables[i].places, tables[i].expiries);
+        memcpy(expected, small_table, sizeof expected);
+        TAKE_WHEN(ALERTC_KEEP, newest_report, 30, refusing(ALERTC_REFUSED_NO_ROOM));
+        TAKE_WHEN(2, newest_report, 30, refusing(ALERTC_REFUSED_UNFIT));
+        TAKE_WHEN(ALERTC_DROP, newest_report, 30, dropping(tables[i].dropped));
+        memcpy(expected + at, newest, sizeof newest);
+        SAME_BYTES(small_table, expected, sizeof expected);
+        RENEWED(tables[i].places);
+
+        /* Told again it matches, and nothing is dropped. */
+        TAKE(newest_report, 30, storing(0, 1, tables[i].dropped));
+        SAME_BYTES(small_table, expected, sizeof expected);
+    }
+
+    /* A record that matches or has expired is freed for the report, whichever expires soonest. */
+    const uint32_t in_order[3] = {40, 50, 60};
+    for (size_t place = 0; place < 3; place++) {
+        const size_t at = place * ALERTC_RECORD_BYTES;
+        uint32_t one_over[3] = {31, 31, 31};
+        full_of(3, in_order);
+        memcpy(expected, small_table, sizeof expected);
+        memcpy(expected + at, newest, sizeof newest);
+        expected[at + 4] = (uint8_t)(0xF5 + place);
+        TAKE(accident_at((uint16_t)(501 + place)), 30, storing(0, 1, place));
+        SAME_BYTES(small_table, expected, sizeof expected);
+        one_over[place] = 30;
+        full_of(3, one_over);
+        memcpy(expected, small_table, sizeof expected);
+        memcpy(expected + at, newest, sizeof newest);
+        TAKE(newest_report, 30, storing(1, 0, place));
+        SAME_BYTES(small_table, expected, sizeof expected);
+    }
+    const uint32_t two_over[3] = {30, 100, 25}, all_over[3] = {1, 30, 29};
+    full_of(3, two_over);
+    memcpy(expected, small_table, sizeof expected);
+    memcpy(expected, newest, sizeof newest);
+    memset(expected + 2 * ALERTC_RECORD_BYTES, 0, ALERTC_RECORD_BYTES);
+    TAKE(newest_report, 30, storing(2, 0, 0));
+    SAME_BYTES(small_table, expected, sizeof expected);
+    full_of(3, two_over);
+    TAKE(accident_at(502), 30, storing(2, 1, 0));
+    full_of(3, all_over);
+    TAKE(newest_report, 30, storing(3, 0, 0));
+    memset(expected, 0, sizeof expected);
+    memcpy(expected, newest, sizeof newest);
+    SAME_BYTES(small_table, expected, sizeof expected);
+
+    /* One free record is enough. */
+    full_of(2, in_order);
+    small_len = sizeof small_table;
+    memcpy(expected, small_table, sizeof expected);
+    memcpy(expected + 2 * ALERTC_RECORD_BYTES, newest, sizeof newest);
+    TAKE(newest_report, 30, storing(0, 0, 2));
+    SAME_BYTES(small_table, expected, sizeof expected);
+
+    /* Cancelling and null reports drop nothing, with an ordinary additional event neither. */
+    full_of(3, in_order);
+    memcpy(expected, small_table, sizeof expected);
+    TAKE(report_of(2028), 30, freeing(0, 0));
+    TAKE(report_of(2047), 30, freeing(0, 0));
+    TAKE(with_event(report_of(2028), 201), 30, freeing(0, 0));
+    TAKE(with_event(report_of(2047), 201), 30, freeing(0, 0));
+    SAME_BYTES(small_table, expected, sizeof expected);
+    struct alertc_report opened_at_502 = accident_at(502);
+    opened_at_502.event = 2028;
+    TAKE(opened_at_502, 30, freeing(0, 1));
+    memset(expected + ALERTC_RECORD_BYTES, 0, ALERTC_RECORD_BYTES);
+    SAME_BYTES(small_table, expected, sizeof expected);
+    full_of(3, in_order);
+    TAKE(report_of(2047), 50, freeing(2, 0));
+    memset(expected, 0, ALERTC_RECORD_BYTES);
+    SAME_BYTES(small_table, expected, sizeof expected);
+
+    /* An ordinary report with a cancelling additional event does; so do one of another class, one
+     * of the other direction and one of another table at a location that a record has. */
+    struct alertc_report others[4] = {with_event(newest_report, 2028), accident_at(502),
+                                      accident_at(502), with_event(accident_at(0xFF41), 2047)};
+    others[1].event = 663;
+    others[2].direction = 1;
+    others[3].real_location = 502;
+    for (size_t i = 0; i < 4; i++) {
+        full_of(3, in_order);
+        TAKE_WHEN(ALERTC_KEEP, others[i], 30, refusing(ALERTC_REFUSED_NO_ROOM));
+        TAKE_WHEN(ALERTC_DROP, others[i], 30, dropping(0));
+        SAME_REPORT(alertc_table_read(small_table, sizeof small_table, 0).report, others[i]);
+    }
+
+    /* One report after the other. The newest goes before older ones that expire later; until
+     * midnight, minute 0x05A0, it stays. */
+    const uint32_t later[3] = {100, 120, 110};
+    struct alertc_report to_midnight = accident_at(0x1235);
+    to_midnight.duration = 0;
+    full_of(3, later);
+    memcpy(expected, small_table, sizeof expected);
+    TAKE_WHEN(ALERTC_DROP, newest_report, 30, dropping(0));
+    TAKE_WHEN(ALERTC_DROP, accident_at(0x1234), 31, dropping(0));
+    TAKE_WHEN(ALERTC_DROP, to_midnight, 32, dropping(0));
+    memcpy(expected, newest, sizeof newest);
+    expected[4] = 0x35;
+    expected[5] = 0x12;
+    expected[11] = 0;
+    expected[12] = 0xA0;
+    expected[13] = 0x05;
+    SAME_BYTES(small_table, expected, sizeof expected);
+    TAKE_WHEN(ALERTC_DROP, newest_report, 30, refusing(ALERTC_REFUSED_MINUTE));
+    TAKE_WHEN(ALERTC_DROP, newest_report, 32, dropping(2));
+    memcpy(expected + 2 * ALERTC_RECORD_BYTES, newest, sizeof newest);
+    expected[2 * ALERTC_RECORD_BYTES + 12] = 92;
+    SAME_BYTES(small_table, expected, sizeof expected);
+
+    /* The largest minute, 0xEE6B2800. */
+    const uint32_t largest[3] = {0xFFFFFFFF, 4000000002U, 4000000001U};
+    const uint8_t largest_expiry[4] = {0x3C, 0x28, 0x6B, 0xEE};
+    full_of(3, largest);
+    memcpy(expected, small_table, sizeof expected);
+    TAKE(newest_report, ALERTC_LARGEST_MINUTE + 1, refusing(ALERTC_REFUSED_MINUTE));
+    TAKE_WHEN(ALERTC_DROP, newest_report, ALERTC_LARGEST_MINUTE, dropping(2));
+    memcpy(expected + 2 * ALERTC_RECORD_BYTES, newest, sizeof newest);
+    memcpy(expected + 2 * ALERTC_RECORD_BYTES + 12, largest_expiry, sizeof largest_expiry);
+    SAME_BYTES(small_table, expected, sizeof expected);
+
+    /* A number that is no choice, whether there is room or not and whatever the report, goes before
+     * the minute; a malformed catalogue goes before it. */
+    for (unsigned number = 2; number <= 255; number++) {
+        const uint8_t no_choice = (uint8_t)number;
+        const struct alertc_table_answer refused_9 = refusing(ALERTC_REFUSED_UNFIT);
+        small_start();
+        TAKE_WHEN(no_choice, newest_report, 30, refused_9);
+        full_of(3, in_order);
+        TAKE_WHEN(no_choice, newest_report, 30, refused_9);
+        TAKE_WHEN(no_choice, newest_report, 60, refused_9);
+        TAKE_WHEN(no_choice, newest_report, 19, refused_9);
+        TAKE_WHEN(no_choice, newest_report, ALERTC_LARGEST_MINUTE + 1, refused_9);
+        TAKE_WHEN(no_choice, opened_at_502, 30, refused_9);
+        TAKE_WHEN(no_choice, report_of(1000), 30, refused_9);
+        TAKE_WHEN(no_choice, report_of(2047), 30, refused_9);
+        small_catalogue[1000] = 0x8045;
+        TAKE_WHEN(no_choice, newest_report, 30, refusing(ALERTC_REFUSED_MALFORMED));
+    }
+
+    /* As many records as there can be. */
+    static uint8_t many[ALERTC_RECORDS * ALERTC_RECORD_BYTES], many_expected[sizeof many];
+    const struct alertc_service service = {13, 17, 3};
+    const size_t in_turn[] = {ALERTC_RECORDS - 1, 700, 900, 0};
+    uint16_t lives[ALERTC_LIVES] = {0};
+    uint32_t clock = 100;
+    lives[2] = 60;
+    for (size_t at = 0; at < sizeof many; at += ALERTC_RECORD_BYTES) {
+        memcpy(many + at, accident, sizeof accident);
+    }
+    many[in_turn[0] * ALERTC_RECORD_BYTES + 12] = 158;
+    many[in_turn[1] * ALERTC_RECORD_BYTES + 12] = 159;
+    many[in_turn[2] * ALERTC_RECORD_BYTES + 12] = 159;
+    memcpy(many_expected, many, sizeof many);
+    small_start();
+    newest[12] = 160;
+    newest[5] = 0x02;
+    for (uint8_t i = 0; i < 4; i++) {
+        const struct alertc_report next = accident_at((uint16_t)(0x0200 + i));
+        newest[4] = i;
+        struct alertc_table_answer t =
+            alertc_table_take(many, sizeof many, small_catalogue, ALERTC_EVENTS, lives,
+                              ALERTC_LIVES, &clock, next, service, 100, 0, ALERTC_KEEP);
+        SAME(t.refusal, ALERTC_REFUSED_NO_ROOM);
+        SAME(memcmp(many, many_expected, sizeof many), 0);
+        t = alertc_table_take(many, sizeof many, small_catalogue, ALERTC_EVENTS, lives,
+                              ALERTC_LIVES, &clock, next, service, 100, 0, ALERTC_DROP);
+        SAME(t.refusal, ALERTC_ACCEPTED);
+        SAME(t.stored, 1);
+        SAME(t.dropped, 1);
+        SAME(t.place, in_turn[i]);
+        SAME(t.expired | t.matched, 0);
+        memcpy(many_expected + in_turn[i] * ALERTC_RECORD_BYTES, newest, sizeof newest);
+        SAME(memcmp(many, many_expected, sizeof many), 0);
+    }
+}
+
 /* Every refusal has a text of its own. */
 static void texts(void) {
     SAME(strcmp(alertc_refusal_text(ALERTC_REFUSED_LENGTH), "wrong length"), 0);
@@ -2043,6 +2351,7 @@ int main(void) {
     classes();
     sets();
     renewals();
+    full_tables();
     texts();
     printf("%u compared, %u differ\n", compared, differing);
     return differing != 0;

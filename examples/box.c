@@ -2,7 +2,7 @@
  * A small box: hears a recording, keeps the message table, and prints what holds on the roads at a
  * minute.
  *
- *     box HEARD ASKED [NEWER] < RECORDING
+ *     box HEARD ASKED [NEWER [RECORDS]] < RECORDING
  *
  * The recording is in the house form: length (16 bits, low byte first, counting what follows it),
  * kind (16 bits), body. Kind 1 is an RDS group, 2 a FIG 5/1, 3 a DRM data unit. All of it is heard
@@ -18,11 +18,15 @@
  * of another. They are emptied on retuning, which a change of PI shows for RDS; a recording does
  * not say when a DAB or DRM tuner moves.
  *
- * Before frame NEWER, if that is given, a newer edition of the catalogue is brought in: the table
- * is renewed, and later reports are taken with the newer edition. While the table has a report
- * whose first event has no class in the newer edition, the renewal is refused. The box then keeps
- * the older edition, with which the table still goes, and tries again before the next frame.
+ * Before frame NEWER, if that is given and not 0, a newer edition of the catalogue is brought in:
+ * the table is renewed, and later reports are taken with the newer edition. While the table has a
+ * report whose first event has no class in the newer edition, the renewal is refused. The box then
+ * keeps the older edition, with which the table still goes, and tries again before the next frame.
  * Another receiver may free such records, or empty the table.
+ *
+ * The table has RECORDS records, 1 to 16, or 16 if that is not given. When it is full, the record
+ * that expires soonest is dropped for a new report. Both are then shown with their frame, as the
+ * table shows its records. Another receiver may keep what it has: ALERTC_KEEP.
  *
  * THE CATALOGUES AND THE LIVES BELOW ARE FOR DEMONSTRATION. They know few events and are not those
  * of ISO 14819-2, nor of any service; so is the service that stands until system words name one.
@@ -33,10 +37,11 @@
 #include <stdbool.h>
 #include <stdio.h>
 #include <stdlib.h>
+#include <string.h>
 
 #include "alertc.h"
 
-enum { RECORDS = 16, TCIDS = 8, SHORT_IDS = 16, LONGEST_BODY = ALERTC_DRM_UNIT_BYTES };
+enum { MOST_RECORDS = 16, TCIDS = 8, SHORT_IDS = 16, LONGEST_BODY = ALERTC_DRM_UNIT_BYTES };
 enum kind { RDS_GROUP = 1, FIG = 2, DRM_UNIT = 3 };
 enum { ORDINARY = 1, CANCELLING = 2, NULL_MESSAGE = 3 };
 
@@ -85,7 +90,8 @@ struct box {
     struct followed rds;
     struct followed dab[TCIDS];
     struct followed drm[SHORT_IDS];
-    uint8_t table[RECORDS * ALERTC_RECORD_BYTES];
+    uint8_t table[MOST_RECORDS * ALERTC_RECORD_BYTES];
+    size_t table_len;          /* how many bytes of it are in use */
     const uint16_t *catalogue; /* with which the table goes */
     uint32_t clock;
     uint32_t minute;
@@ -119,22 +125,53 @@ static bool accepted(const struct box *box, uint8_t refusal) {
     return refusal == ALERTC_ACCEPTED;
 }
 
-/* A valid word of a service: a report that it completes goes into the table. */
+/* Shows the record at a place of a table, if it is used. */
+static void show_record(const uint8_t *table, size_t place) {
+    struct alertc_table_reading record =
+        alertc_record_read(table + place * ALERTC_RECORD_BYTES, ALERTC_RECORD_BYTES);
+    if (record.used) {
+        const struct alertc_report *r = &record.report;
+        const struct alertc_service *from = &record.service;
+        bool foreign = r->location >= ALERTC_FLT_CODES; /* an INTER-ROAD report */
+        printf("%zu %u/%u/%u %u %u %u %u %u %zu %lu %u/%u/%u\n", place,
+               foreign ? alertc_flt_country(r->location) : from->country,
+               foreign ? alertc_flt_ltn(r->location) : from->ltn,
+               foreign ? r->real_location : r->location, r->event, r->direction, r->extent,
+               r->diversion, r->duration, r->item_count, (unsigned long)record.expiry,
+               from->country, from->ltn, from->sid);
+    }
+}
+
+/* A report goes into the table. The record that is dropped for it is shown from a copy. */
+static void take_report(struct box *box, const struct followed *from,
+                        struct alertc_report report) {
+    uint8_t before[sizeof box->table];
+    memcpy(before, box->table, sizeof before);
+    struct alertc_table_answer answer =
+        alertc_table_take(box->table, box->table_len, box->catalogue, ALERTC_EVENTS, lives,
+                          ALERTC_LIVES, &box->clock, report, from->service, box->minute, from->lto,
+                          ALERTC_DROP);
+    if (accepted(box, answer.refusal) && answer.dropped) {
+        printf("frame %lu dropped ", box->frame);
+        show_record(before, answer.place);
+        printf("frame %lu stored ", box->frame);
+        show_record(box->table, answer.place);
+    }
+}
+
+/* A valid word of a service, which may complete a report. */
 static void take_word(struct box *box, struct followed *from, uint64_t word) {
     struct alertc_assembler_answer answer = alertc_assembler_step(from->assembler, word);
     from->assembler = answer.next;
     if (accepted(box, answer.refusal) && answer.kind == ALERTC_ANSWER_REPORT) {
-        accepted(box, alertc_table_take(box->table, sizeof box->table, box->catalogue,
-                                        ALERTC_EVENTS, lives, ALERTC_LIVES, &box->clock,
-                                        answer.report, from->service, box->minute, from->lto)
-                          .refusal);
+        take_report(box, from, answer.report);
     }
 }
 
 /* Brings in the newer catalogue, or keeps the older one where that is refused. */
 static void renew(struct box *box) {
     struct alertc_renewal renewal =
-        alertc_table_renew(box->table, sizeof box->table, newer_catalogue, ALERTC_EVENTS);
+        alertc_table_renew(box->table, box->table_len, newer_catalogue, ALERTC_EVENTS);
     if (accepted(box, renewal.refusal)) {
         box->catalogue = newer_catalogue;
         printf("newer catalogue before frame %lu, records %zu\n", box->frame, renewal.used);
@@ -264,7 +301,7 @@ static void hear(struct box *box) {
 /* What holds at a minute: the table after the records that expired are freed. */
 static int show(struct box *box, uint32_t minute) {
     struct alertc_table_answer freed =
-        alertc_table_expire(box->table, sizeof box->table, &box->clock, minute);
+        alertc_table_expire(box->table, box->table_len, &box->clock, minute);
     if (freed.refusal != ALERTC_ACCEPTED) {
         fprintf(stderr, "minute %lu: %s\n", (unsigned long)minute,
                 alertc_refusal_text(freed.refusal));
@@ -272,36 +309,26 @@ static int show(struct box *box, uint32_t minute) {
     }
     printf("minute %lu, expired %zu\n", (unsigned long)minute, freed.expired);
     puts("place country/ltn/location event dir extent div dur items until country/ltn/sid");
-    for (size_t i = 0; i < RECORDS; i++) {
-        struct alertc_table_reading record =
-            alertc_record_read(box->table + i * ALERTC_RECORD_BYTES, ALERTC_RECORD_BYTES);
-        if (record.used) {
-            const struct alertc_report *r = &record.report;
-            const struct alertc_service *from = &record.service;
-            bool foreign = r->location >= ALERTC_FLT_CODES; /* an INTER-ROAD report */
-            printf("%zu %u/%u/%u %u %u %u %u %u %zu %lu %u/%u/%u\n", i,
-                   foreign ? alertc_flt_country(r->location) : from->country,
-                   foreign ? alertc_flt_ltn(r->location) : from->ltn,
-                   foreign ? r->real_location : r->location, r->event, r->direction, r->extent,
-                   r->diversion, r->duration, r->item_count, (unsigned long)record.expiry,
-                   from->country, from->ltn, from->sid);
-        }
+    for (size_t place = 0; place < box->table_len / ALERTC_RECORD_BYTES; place++) {
+        show_record(box->table, place);
     }
     return EXIT_SUCCESS;
 }
 
 int main(int argc, char **argv) {
-    if (argc != 3 && argc != 4) {
-        fprintf(stderr, "usage: %s HEARD ASKED [NEWER] < RECORDING\n", argv[0]);
+    unsigned long records = argc > 4 ? strtoul(argv[4], NULL, 10) : MOST_RECORDS;
+    if (argc < 3 || argc > 5 || records < 1 || records > MOST_RECORDS) {
+        fprintf(stderr, "usage: %s HEARD ASKED [NEWER [RECORDS]] < RECORDING\n", argv[0]);
         return 2;
     }
     static struct box box;
     retune_rds(&box, 0);
     retune_dab(&box);
     retune_drm(&box);
+    box.table_len = records * ALERTC_RECORD_BYTES;
     box.catalogue = catalogue;
     box.minute = (uint32_t)strtoul(argv[1], NULL, 10);
-    box.newer = argc == 4 ? strtoul(argv[3], NULL, 10) : 0;
+    box.newer = argc > 3 ? strtoul(argv[3], NULL, 10) : 0;
     hear(&box);
     return show(&box, (uint32_t)strtoul(argv[2], NULL, 10));
 }

@@ -46,10 +46,10 @@ extern "C" {
 #endif
 
 /* The version of this interface: the first number changes when a caller must change. */
-#define ALERTC_VERSION_MAJOR 6
+#define ALERTC_VERSION_MAJOR 7
 #define ALERTC_VERSION_MINOR 0
 #define ALERTC_VERSION_PATCH 0
-#define ALERTC_VERSION "6.0.0"
+#define ALERTC_VERSION "7.0.0"
 
 /* ---- Refusals ---- */
 
@@ -94,7 +94,7 @@ static inline const char *alertc_refusal_text(unsigned refusal) {
     case ALERTC_REFUSED_LABEL_15:
         return "content: label 15";
     case ALERTC_REFUSED_UNFIT:
-        return "report, field, word, FIGs, state or place unfit";
+        return "report, field, word, FIGs, state, place or choice unfit";
     case ALERTC_REFUSED_MALFORMED:
         return "table, record, catalogue or lives malformed";
     case ALERTC_REFUSED_EVENT:
@@ -541,11 +541,18 @@ struct alertc_service {
     uint8_t sid;     /* service identifier, 0 to 63 */
 };
 
+/* What a take does with an ordinary report when no record is free for it. */
+enum alertc_when_full {
+    ALERTC_DROP = 0, /* the default: drops the record that expires soonest, and stores the report */
+    ALERTC_KEEP = 1  /* keeps all records, and refuses the report (14) */
+};
+
 struct alertc_table_answer {
-    size_t expired; /* how many records were freed because their time was over */
-    size_t matched; /* how many were freed because the report replaces or cancels them */
-    size_t place;   /* where the report was stored, from 0; 0 if it was not */
-    uint8_t stored; /* 1 if it was, else 0 */
+    size_t expired;  /* how many records were freed because their time was over */
+    size_t matched;  /* how many were freed because the report replaces or cancels them */
+    size_t place;    /* where the report was stored, from 0; 0 if it was not */
+    uint8_t stored;  /* 1 if it was, else 0 */
+    uint8_t dropped; /* 1 if the record that stood in `place` was dropped for it, else 0 */
     uint8_t refusal;
 };
 
@@ -554,8 +561,18 @@ struct alertc_table_answer {
  * `clock` is the last accepted minute, 0 at the start. Frees the expired records and, for an
  * ordinary or cancelling report, those that match it: of the same service, location and direction,
  * and with an update class in common. Stores an ordinary report in the lowest-numbered free record.
- * Refused, in this order: table, catalogue or lives, their sizes included (10), report, service or
- * offset (9), minute (13), location (12), event unknown (11), no room (14).
+ * Refused, in this order: table, catalogue or lives, their sizes included (10), report, service,
+ * offset or a `when_full` that is no choice (9), minute (13), location (12), event unknown (11),
+ * and under ALERTC_KEEP alone no room (14).
+ *
+ * The table is full if no record is free for an ordinary report once the expired and the matching
+ * ones are freed: then none has expired, and none matches. What is done then is `when_full`, one of
+ * enum alertc_when_full. Under ALERTC_DROP the record that expires soonest is dropped, the
+ * lowest-numbered on a tie, and the report is stored in its place, even if it expires sooner than
+ * all others: `dropped` is 1, and `expired` and `matched` are 0. The bytes of the record that was
+ * dropped are overwritten; a caller that shows it keeps them from before. Under ALERTC_KEEP the
+ * report is refused (14), and every answer is that of before 7.0.0. Cancelling and null reports
+ * never drop a record.
  *
  * The kind of a report is that of its first event. Its classes are those of all its events, the
  * first and each item of label 9, as the catalogue has them. An additional event of kind 0 or 3 has
@@ -577,11 +594,11 @@ struct alertc_table_answer alertc_table_take(uint8_t *table, size_t table_len,
                                              const uint16_t *lives, size_t lives_len,
                                              uint32_t *clock, struct alertc_report report,
                                              struct alertc_service service, uint32_t minute,
-                                             int8_t lto);
+                                             int8_t lto, uint8_t when_full);
 
 /*
- * Frees the records that expire at or before a minute. Refused: table (10), minute (13). The items
- * of a record are not read.
+ * Frees the records that expire at or before a minute, and drops none. Refused: table (10), minute
+ * (13). The items of a record are not read.
  */
 struct alertc_table_answer alertc_table_expire(uint8_t *table, size_t table_len, uint32_t *clock,
                                                uint32_t minute);
@@ -727,7 +744,8 @@ ALERTC_SIZE_(table_answer, 32);
 ALERTC_AT_(table_answer, matched, 8);
 ALERTC_AT_(table_answer, place, 16);
 ALERTC_AT_(table_answer, stored, 24);
-ALERTC_AT_(table_answer, refusal, 25);
+ALERTC_AT_(table_answer, dropped, 25);
+ALERTC_AT_(table_answer, refusal, 26);
 ALERTC_SIZE_(renewal, 16);
 ALERTC_AT_(renewal, refusal, 8);
 ALERTC_SIZE_(table_reading, 152);
