@@ -3,7 +3,7 @@
 use std::hint::black_box;
 
 use proved::RECORD_BYTES as RECORD;
-use proved::{Renewal, Report, Service, TableAnswer, TableReading, Taking};
+use proved::{Renewal, Report, Service, TableAnswer, TableReading, Taking, DROP, KEEP};
 
 use crate::input::{multi_at, multi_event_at, single_at, ADDITIONAL_EVENTS};
 use crate::timing::{least, measure, print_limit, Times};
@@ -56,6 +56,7 @@ struct Table {
     clock: u32,
     catalogue: [u16; EVENTS],
     lives: [u16; LIVES],
+    when_full: u8,
     /// Takes so far.
     taken: usize,
 }
@@ -68,8 +69,20 @@ impl Table {
             clock: START,
             catalogue: catalogue(),
             lives: [life; LIVES],
+            when_full: DROP,
             taken: 0,
         }
+    }
+
+    /// A full table: each minute a report of a location of its own was stored.
+    fn full(records: usize, life: u16) -> Self {
+        let mut table = Self::new(records, life);
+        for minute in START..START + records as u32 {
+            let location = minute - START;
+            let answer = table.take(calls::table_take, single_at(location as u16), minute);
+            assert_eq!((answer.refusal, answer.stored), (0, 1));
+        }
+        table
     }
 
     fn records(&self) -> usize {
@@ -84,6 +97,7 @@ impl Table {
             service: SERVICE,
             minute,
             lto: 2,
+            when_full: self.when_full,
         };
         self.taken += 1;
         take(&mut self.bytes, &mut self.clock, &taking)
@@ -133,14 +147,10 @@ fn take(what: &str, records: usize, stored_at: ReportAt, report_at: ReportAt) ->
 }
 
 /// Takes of which half meet an expired record, and the others are of all kinds: cancelling, null,
-/// unfit, of an FLT code, unknown, without room.
+/// unfit, of an FLT code, unknown, without room where all records are kept.
 fn take_rough(records: usize) {
-    let mut table = Table::new(records, records as u16);
-    for minute in START..START + records as u32 {
-        let location = minute - START;
-        let answer = table.take(calls::table_take, single_at(location as u16), minute);
-        assert_eq!((answer.refusal, answer.stored), (0, 1));
-    }
+    let mut table = Table::full(records, records as u16);
+    table.when_full = KEEP;
     let times = measure_on(table, |table, take| {
         let i = table.taken;
         let mut report = match i % 4 {
@@ -162,6 +172,28 @@ fn take_rough(records: usize) {
     });
     let what = format!("take at {records} records, with expiries and refusals");
     times.print(&what, CALLS);
+}
+
+/// Takes into a full table, one each minute, of a location that no record has. Each drops the
+/// record that expires soonest, long before its minute, and stores the one that expires last, so
+/// that the table stays full and its expiries a row of minutes.
+fn take_full(records: usize) {
+    let table = Table::full(records, 2 * records as u16);
+    let times = measure_on(table, |table, take| {
+        let i = table.taken;
+        let answer = table.take(take, single_at(i as u16 & 0x7FFF), table.clock + 1);
+        let dropped = TableAnswer {
+            place: i % table.records(),
+            stored: 1,
+            dropped: 1,
+            ..TableAnswer::default()
+        };
+        assert_eq!(answer, dropped);
+    });
+    times.print(
+        &format!("take into a full table of {records} records"),
+        CALLS,
+    );
 }
 
 /// Expiry at a minute before that of every record, so that the table stays as it is.
@@ -268,6 +300,7 @@ pub fn bench() {
         multi_event_at,
     );
     take_rough(most);
+    take_full(most);
     expire(most);
     renew("single-group reports", most, single_at);
     renew("multi-event reports", most, multi_event_at);

@@ -16,7 +16,7 @@ use second::fig::Fig;
 use second::rds::{Group, Run};
 use second::report::Report;
 use second::system::SystemWord;
-use second::table::{self, Arrival, Entry, Lists, Service};
+use second::table::{self, Arrival, Entry, Lists, Service, WhenFull};
 use second::word::{self, Head, Word};
 use second::{fib, fib_write, Refusal};
 
@@ -488,6 +488,12 @@ pub fn table_take(table: &mut [u8], clock: &mut u32, taking: &Taking) -> TableAn
         catalogue: taking.catalogue,
         lives: taking.lives,
     };
+    // With another number the offset becomes one out of its range, for the same refusal.
+    let (when_full, lto) = match taking.when_full {
+        proved::DROP => (WhenFull::Drop, taking.lto),
+        proved::KEEP => (WhenFull::Keep, taking.lto),
+        _ => (WhenFull::default(), i8::MAX),
+    };
     let arrival = Arrival {
         report: &report,
         service: Service {
@@ -495,17 +501,18 @@ pub fn table_take(table: &mut [u8], clock: &mut u32, taking: &Taking) -> TableAn
             ltn: taking.service.ltn,
             sid: taking.service.sid,
         },
-        lto: taking.lto,
+        lto,
         minute: Utc(taking.minute),
     };
     let mut last = Utc(*clock);
-    let taken = table::take(table, lists, &mut last, arrival);
+    let taken = table::take(table, lists, &mut last, arrival, when_full);
     *clock = last.0;
     let (answer, refusal) = split(taken.map(|taken| TableAnswer {
         expired: taken.expired,
         matched: taken.matched,
         place: taken.place.unwrap_or(0),
         stored: taken.place.is_some().into(),
+        dropped: taken.dropped.is_some().into(),
         refusal: 0,
     }));
     TableAnswer { refusal, ..answer }

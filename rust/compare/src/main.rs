@@ -17,6 +17,7 @@ mod faults;
 mod fib_write;
 mod fibs;
 mod fields;
+mod full;
 mod listings;
 mod lists;
 mod random;
@@ -84,6 +85,9 @@ impl Trial {
         }
         for _ in 0..40 {
             self.stored(&lists);
+        }
+        for _ in 0..40 {
+            self.full_table(&lists);
         }
     }
 }

@@ -2,19 +2,20 @@
 
 use std::fmt::Debug;
 
-use proved::{ExpiryAnswer, Report, TableReading, RECORD_BYTES as RECORD};
+use proved::{ExpiryAnswer, Report, TableAnswer, TableReading, RECORD_BYTES as RECORD};
 
 use crate::faults;
 use crate::lists::Lists;
-use crate::records::{at_home, location_of, service_of};
+use crate::records::{self, at_home, location_of, service_of};
 use crate::sender::{self, Location};
 use crate::tally::Call;
 use crate::Trial;
 
-const LARGEST: u32 = 4_000_000_000;
+/// The largest minute of a call.
+pub const LARGEST: u32 = 4_000_000_000;
 
 impl Trial {
-    fn minute(&mut self) -> u32 {
+    pub fn minute(&mut self) -> u32 {
         match self.random.below(20) {
             0 => LARGEST + self.random.below(3) as u32,
             1..4 => 0,
@@ -60,6 +61,21 @@ impl Trial {
         }
     }
 
+    /// The records used before a call and stored by it are those used after it and those that went.
+    pub fn expect_count(
+        &self,
+        call: Call,
+        input: &dyn Debug,
+        [before, after]: [&[u8]; 2],
+        answer: &TableAnswer,
+    ) {
+        let used = |table| records::used(table).count();
+        let went = answer.expired + answer.matched + usize::from(answer.dropped);
+        let came = usize::from(answer.stored);
+        self.tally
+            .expect(call, input, used(after) + went, used(before) + came);
+    }
+
     pub fn expire(&mut self, table: &mut Vec<u8>, clock: &mut u32) {
         let minute = self.next_minute(*clock);
         let entry = (table.clone(), *clock);
@@ -77,6 +93,7 @@ impl Trial {
         let faults = faults::of_table(&entry.0);
         self.tally
             .expect_faults(Call::TableExpire, &input, proved.refusal, &faults);
+        self.expect_count(Call::TableExpire, &input, [&entry.0, &a.0], &proved);
         self.tally.mark("expire: several", proved.expired > 1);
         (*table, *clock) = a;
     }

@@ -3,11 +3,12 @@
 use std::fmt::Debug;
 
 use proved::RECORD_BYTES as RECORD;
-use proved::{Head, Report, Service, TableAnswer, TableReading, Taking};
+use proved::{Head, Report, Service, TableAnswer, TableReading, Taking, DROP, KEEP};
 
 use crate::classes::{self, Classes, Meeting, Set};
 use crate::faults::{self, Faults};
 use crate::fields::Fields;
+use crate::full;
 use crate::lists::Lists;
 use crate::records::{self, at_home, location_of, service_of};
 use crate::records::{COUNTRIES, LOCATIONS, NEAR_FLT, NUMBERS};
@@ -50,7 +51,7 @@ impl Met {
     }
 }
 
-/// What an accepted take answers and leaves.
+/// What a take answers and leaves that is accepted or finds no room.
 #[derive(Default)]
 struct Meant {
     answer: TableAnswer,
@@ -60,7 +61,7 @@ struct Meant {
     met: Vec<Met>,
 }
 
-/// What an accepted take means, by the rules' three steps over the bytes of a record one after the
+/// What such a take means, by the rules' three steps over the bytes of a record one after the
 /// other.
 fn meant_by(before: &[u8], taking: &Taking) -> Meant {
     let Taking {
@@ -69,6 +70,7 @@ fn meant_by(before: &[u8], taking: &Taking) -> Meant {
         service,
         minute,
         lto,
+        when_full,
         ..
     } = *taking;
     let entry = catalogue[usize::from(report.head.event)];
@@ -112,15 +114,36 @@ fn meant_by(before: &[u8], taking: &Taking) -> Meant {
             near.push(of);
         }
     }
-    let free = table.chunks(RECORD).position(|record| record[0] == 0);
-    if let (1, Some(place)) = (kind, free) {
-        let expiry = sender::expiry(minute, lto, life);
-        let record = sender::record(&report, service, expiry, &classes.set());
-        table[place * RECORD..][..RECORD].copy_from_slice(&record);
-        answer.stored = 1;
-        answer.place = place;
+    if kind != 1 {
+        return meant;
     }
+    let free = table.chunks(RECORD).position(|record| record[0] == 0);
+    if free.is_none() && when_full == KEEP {
+        return Meant {
+            answer: TableAnswer {
+                refusal: 14,
+                ..TableAnswer::default()
+            },
+            table: before.to_vec(),
+            ..Meant::default()
+        };
+    }
+    let place = free.unwrap_or_else(|| full::soonest(table)[0]);
+    let expiry = sender::expiry(minute, lto, life);
+    let record = sender::record(&report, service, expiry, &classes.set());
+    table[place * RECORD..][..RECORD].copy_from_slice(&record);
+    answer.stored = 1;
+    answer.place = place;
+    answer.dropped = free.is_none().into();
     meant
+}
+
+/// Gives a report this code as its location's.
+pub fn locate(report: &mut Report, code: u16) {
+    match sender::is_inter_road(report) {
+        true => report.real_location = code,
+        false => report.head.location = code,
+    }
 }
 
 /// The faults for which a take is refused.
@@ -133,7 +156,7 @@ fn faults(table: &[u8], taking: &Taking) -> Faults {
 
 impl Trial {
     /// A report that fits and that records of [`Trial::table`] may match.
-    fn arrival(&mut self, lists: &Lists) -> Report {
+    pub fn arrival(&mut self, lists: &Lists) -> Report {
         let random = &mut self.random;
         let code = if random.once_in(16) {
             random.pick(&NEAR_FLT)
@@ -163,16 +186,12 @@ impl Trial {
     /// The report with the code and the direction of a record, mostly with an event of one of the
     /// classes that it stores or now and then of its events, and in an INTER-ROAD one mostly the
     /// table of its location.
-    fn alike(&mut self, mut report: Report, record: &[u8], lists: &Lists) -> Report {
+    pub fn alike(&mut self, mut report: Report, record: &[u8], lists: &Lists) -> Report {
         let random = &mut self.random;
         let location = location_of(record);
-        if sender::is_inter_road(&report) {
-            report.real_location = location.code;
-            if !random.once_in(3) {
-                report.head.location = sender::flt_code(location.country, location.ltn);
-            }
-        } else {
-            report.head.location = location.code;
+        locate(&mut report, location.code);
+        if sender::is_inter_road(&report) && !random.once_in(3) {
+            report.head.location = sender::flt_code(location.country, location.ltn);
         }
         report.head.direction = record[8];
         let classes = match Classes::of_record(&lists.catalogue, record) {
@@ -195,6 +214,16 @@ impl Trial {
         report
     }
 
+    /// A service that records of [`Trial::table`] may have.
+    pub fn service(&mut self) -> Service {
+        let random = &mut self.random;
+        Service {
+            country: random.pick(&COUNTRIES),
+            ltn: random.pick(&NUMBERS),
+            sid: random.pick(&NUMBERS),
+        }
+    }
+
     /// What a take is given: the lent lists, and mostly a report that fits, often one that a record
     /// may match by these lists.
     fn taking<'a>(
@@ -206,15 +235,10 @@ impl Trial {
     ) -> Taking<'a> {
         let mut report = self.arrival(lists);
         let minute = self.next_minute(clock);
-        let random = &mut self.random;
-        let mut service = Service {
-            country: random.pick(&COUNTRIES),
-            ltn: random.pick(&NUMBERS),
-            sid: random.pick(&NUMBERS),
-        };
+        let mut service = self.service();
         let used: Vec<_> = records::used(table).collect();
-        if !used.is_empty() && random.once_in(2) {
-            let record = random.pick(&used);
+        if !used.is_empty() && self.random.once_in(2) {
+            let record = self.random.pick(&used);
             service = service_of(record);
             report = self.alike(report, record, lists);
         }
@@ -230,6 +254,11 @@ impl Trial {
         } else {
             random.lto()
         };
+        let when_full = if random.once_in(16) {
+            random.pick(&full::NO_CHOICE)
+        } else {
+            random.pick(&[DROP, KEEP])
+        };
         Taking {
             catalogue: &lent.catalogue,
             lives: &lent.lives,
@@ -237,35 +266,57 @@ impl Trial {
             service,
             minute,
             lto,
+            when_full,
         }
     }
 
     /// A take with the lists that it is lent, of a report for these lists.
     pub fn take(&mut self, table: &mut Vec<u8>, clock: &mut u32, lists: &Lists, lent: &Lists) {
         let taking = self.taking(table, *clock, lists, lent);
+        self.take_with(table, clock, &taking);
+    }
+
+    /// A take that is given just this.
+    pub fn take_with(
+        &mut self,
+        table: &mut Vec<u8>,
+        clock: &mut u32,
+        taking: &Taking,
+    ) -> TableAnswer {
         let entry = (table.clone(), *clock);
         let (mut a, mut b) = (entry.clone(), entry.clone());
-        let proved = proved::table_take(&mut a.0, &mut a.1, &taking);
-        let second = calls::table_take(&mut b.0, &mut b.1, &taking);
-        let input = (&entry, &taking);
+        let proved = proved::table_take(&mut a.0, &mut a.1, taking);
+        let second = calls::table_take(&mut b.0, &mut b.1, taking);
+        let input = (&entry, taking);
         self.tally
             .agree_lent(Call::TableTake, &input, &entry, (proved, &a), (second, &b));
-        let faults = faults(&entry.0, &taking);
+        let faults = faults(&entry.0, taking);
         self.tally
             .expect_faults(Call::TableTake, &input, proved.refusal, &faults);
-        self.expect_foreign(&input, &taking, proved.refusal);
+        self.expect_foreign(&input, taking, proved.refusal);
+        if taking.when_full > KEEP {
+            let refused = matches!(proved.refusal, 9 | 10);
+            self.tally.expect(Call::TableTake, &input, refused, true);
+        }
         let mut meant = Meant::default();
-        if proved.refusal == 0 {
-            meant = meant_by(&entry.0, &taking);
-            let left = (meant.table.clone(), taking.minute);
+        if matches!(proved.refusal, 0 | 14) {
+            meant = meant_by(&entry.0, taking);
+            let left = match meant.answer.refusal {
+                0 => (meant.table.clone(), taking.minute),
+                _ => entry.clone(),
+            };
             self.tally
                 .expect(Call::TableTake, &input, (proved, &a), (meant.answer, &left));
         }
-        self.mark_steps(&taking, &proved);
-        self.mark_locations(&taking, &proved, &meant.near);
-        self.mark_events(&taking, &meant);
-        self.mark_sets(&taking, &meant);
+        self.expect_count(Call::TableTake, &input, [&entry.0, &a.0], &proved);
+        self.mark_steps(taking, &proved);
+        self.mark_locations(taking, &proved, &meant.near);
+        self.mark_events(taking, &meant);
+        self.mark_sets(taking, &meant);
+        self.mark_full(&entry.0, taking, &proved);
+        self.mark_dropped(&entry.0, &a.0, &proved);
         (*table, *clock) = a;
+        proved
     }
 
     /// A take refuses 12 for an FLT code as the location's code and for nothing else, and a real
@@ -438,6 +489,7 @@ impl Trial {
         let mut clock = 0;
         let minute = random.below(10_000) as u32;
         let lto = random.lto();
+        let when_full = random.pick(&[DROP, KEEP]);
         let taking = Taking {
             catalogue: &lists.catalogue,
             lives: &lists.lives,
@@ -445,8 +497,9 @@ impl Trial {
             service,
             minute,
             lto,
+            when_full,
         };
-        let input = (report, service, minute, lto);
+        let input = (report, service, minute, lto, when_full);
         let taken = proved::table_take(&mut table, &mut clock, &taking);
         let meant = TableAnswer {
             stored: 1,

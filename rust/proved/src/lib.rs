@@ -77,6 +77,7 @@ mod c {
             service: Service,
             minute: u32,
             lto: i8,
+            when_full: u8,
         ) -> TableAnswer;
         pub fn alertc_table_expire(
             table: *mut u8,
@@ -197,6 +198,7 @@ pub struct Taking<'a> {
     pub service: Service,
     pub minute: u32,
     pub lto: i8,
+    pub when_full: u8,
 }
 
 pub fn table_take(table: &mut [u8], clock: &mut u32, taking: &Taking) -> TableAnswer {
@@ -213,6 +215,7 @@ pub fn table_take(table: &mut [u8], clock: &mut u32, taking: &Taking) -> TableAn
             taking.service,
             taking.minute,
             taking.lto,
+            taking.when_full,
         )
     }
 }

@@ -6,6 +6,9 @@ use std::mem::{offset_of, size_of};
 pub const ITEMS: usize = 28;
 /// Bytes of a record of the message table.
 pub const RECORD_BYTES: usize = 42;
+/// What a take does when the table is full: drops a record, or keeps all and refuses the report.
+pub const DROP: u8 = 0;
+pub const KEEP: u8 = 1;
 
 /// Structs of numbers, each with its size in bytes.
 macro_rules! values {
@@ -194,11 +197,13 @@ values! {
         sid: u8,
     }
 
+    /// Dropped is 1 if the record that stood in the place was dropped for the report.
     TableAnswer, 32 {
         expired: usize,
         matched: usize,
         place: usize,
         stored: u8,
+        dropped: u8,
         refusal: u8,
     }
 
@@ -241,7 +246,8 @@ const _: () = {
     assert!(offset_of!(FibReading, refusal) == 17);
     assert!(offset_of!(DrmUnit, system_words) == 8);
     assert!(offset_of!(DrmReading, refusal) == 22);
-    assert!(offset_of!(TableAnswer, refusal) == 25);
+    assert!(offset_of!(TableAnswer, dropped) == 25);
+    assert!(offset_of!(TableAnswer, refusal) == 26);
     assert!(offset_of!(Renewal, refusal) == 8);
     assert!(offset_of!(TableReading, service) == 136);
     assert!(offset_of!(TableReading, expiry) == 140);

@@ -106,13 +106,25 @@ pub struct Arrival<'a> {
     pub minute: Utc,
 }
 
+/// What a take does with an ordinary report when no record is free for it.
+#[derive(Clone, Copy, Debug, Default, PartialEq, Eq)]
+pub enum WhenFull {
+    /// Drops the record that expires soonest, and stores the report in its place.
+    #[default]
+    Drop,
+    /// Keeps all records, and refuses the report.
+    Keep,
+}
+
 /// What taking a report did.
-#[derive(Clone, Copy, Debug, PartialEq, Eq)]
+#[derive(Clone, Copy, Debug, Default, PartialEq, Eq)]
 pub struct Taken {
     pub expired: usize,
     pub matched: usize,
     /// The record's number, if the report was stored.
     pub place: Option<usize>,
+    /// The number of the record that was dropped for it, if one was.
+    pub dropped: Option<usize>,
 }
 
 /// The kind of an event in the catalogue.
@@ -330,15 +342,26 @@ pub fn expire(table: &mut [u8], last: &mut Utc, minute: Utc) -> Result<usize, Re
     Ok(expired)
 }
 
+/// The number of the record that goes when none is free: of those that expire soonest, the lowest.
+/// Refuses 14 where all are kept.
+#[inline]
+fn place_to_drop(records: &[Record], when_full: WhenFull) -> Result<usize, Refusal> {
+    require(when_full == WhenFull::Drop, Refusal::NoRoom)?;
+    let soonest = (0..records.len()).min_by_key(|&i| expiry(&records[i]));
+    soonest.ok_or(Refusal::NoRoom)
+}
+
 /// Takes a report, which matches by the classes that the records store. Refuses, in this order, a
 /// malformed table, catalogue or lives (10), an unfit report, service or offset (9), the minute
-/// (13), a location whose code is an FLT code (12), an unknown event (11) and a lack of room (14).
+/// (13), a location whose code is an FLT code (12), an unknown event (11) and a lack of room where
+/// all records are kept (14).
 #[inline]
 pub fn take(
     table: &mut [u8],
     lists: Lists,
     last: &mut Utc,
     arrival: Arrival,
+    when_full: WhenFull,
 ) -> Result<Taken, Refusal> {
     records(table)?;
     let catalogue = Catalogue::new(lists.catalogue)?;
@@ -380,12 +403,8 @@ pub fn take(
             && classes(record) & new_classes != 0
     };
 
-    // With no record free at the end none was freed, so refusal 14 finds the table as it was.
-    let mut taken = Taken {
-        expired: 0,
-        matched: 0,
-        place: None,
-    };
+    let mut taken = Taken::default();
+    let mut free = None;
     let records = table.as_chunks_mut().0;
     for (i, record) in records.iter_mut().enumerate() {
         if !is_free(record) {
@@ -398,12 +417,17 @@ pub fn take(
             }
             *record = FREE;
         }
-        taken.place = taken.place.or(Some(i));
+        free = free.or(Some(i));
     }
     if kind == Kind::Ordinary {
-        records[taken.place.ok_or(Refusal::NoRoom)?] = new;
-    } else {
-        taken.place = None;
+        if free.is_none() {
+            // None was freed, so all are used, and refusal 14 finds the table as it was.
+            taken.dropped = Some(place_to_drop(records, when_full)?);
+        }
+        taken.place = free.or(taken.dropped);
+    }
+    if let Some(place) = taken.place {
+        records[place] = new;
     }
     *last = minute;
     Ok(taken)
@@ -581,7 +605,8 @@ mod tests {
                 lives: &self.lives,
             };
             let before = (self.table.clone(), self.last);
-            let taken = take(&mut self.table, lists, &mut self.last, arrival);
+            let keep = WhenFull::Keep;
+            let taken = take(&mut self.table, lists, &mut self.last, arrival, keep);
             if taken.is_err() {
                 assert_eq!((self.table.clone(), self.last), before);
             }
@@ -594,6 +619,7 @@ mod tests {
             expired,
             matched,
             place: Some(place),
+            dropped: None,
         })
     }
 
@@ -633,7 +659,7 @@ mod tests {
             Ok(Taken {
                 expired,
                 matched,
-                place: None,
+                ..Taken::default()
             })
         };
         assert_eq!(bench.take(103, 1, 2), freed(0, 0));

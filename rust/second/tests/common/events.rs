@@ -45,6 +45,6 @@ pub fn freed(expired: usize, matched: usize) -> Result<Taken, Refusal> {
     Ok(Taken {
         expired,
         matched,
-        place: None,
+        ..Taken::default()
     })
 }

@@ -3,7 +3,7 @@
 use second::clock::Utc;
 use second::content::{Item, Items};
 use second::report::Report;
-use second::table::{self, Arrival, Lists, Service, Taken, EVENTS, LIVES, RECORD};
+use second::table::{self, Arrival, Lists, Service, Taken, WhenFull, EVENTS, LIVES, RECORD};
 use second::word::Head;
 use second::Refusal;
 
@@ -60,8 +60,21 @@ impl Table {
         }
     }
 
-    /// A take; a refused one must leave the table and the clock.
-    pub fn take_at(&mut self, report: &Report, minute: u32) -> Result<Taken, Refusal> {
+    fn used(&self) -> usize {
+        self.bytes
+            .chunks(RECORD)
+            .filter(|record| record[0] == 1)
+            .count()
+    }
+
+    /// A take. An accepted one must move the clock and answer as many records as came and went, a
+    /// refused one must leave the table and the clock.
+    pub fn take_when_full(
+        &mut self,
+        report: &Report,
+        minute: u32,
+        when_full: WhenFull,
+    ) -> Result<Taken, Refusal> {
         let lists = Lists {
             catalogue: &self.catalogue,
             lives: &[60; LIVES],
@@ -72,14 +85,27 @@ impl Table {
             lto: 0,
             minute: Utc(minute),
         };
-        let before = (self.bytes.clone(), self.last);
-        let taken = table::take(&mut self.bytes, lists, &mut self.last, arrival);
-        if taken.is_err() {
-            assert_eq!((&self.bytes, self.last), (&before.0, before.1));
+        let (before, last, used) = (self.bytes.clone(), self.last, self.used());
+        let taken = table::take(&mut self.bytes, lists, &mut self.last, arrival, when_full);
+        match taken {
+            Ok(taken) => {
+                let came = usize::from(taken.place.is_some());
+                let dropped = usize::from(taken.dropped.is_some());
+                let went = taken.expired + taken.matched + dropped;
+                assert_eq!(self.used() + went, used + came);
+                assert_eq!(self.last, Utc(minute));
+            }
+            Err(_) => assert_eq!((&self.bytes, self.last), (&before, last)),
         }
         taken
     }
 
+    /// A take that keeps all records when full.
+    pub fn take_at(&mut self, report: &Report, minute: u32) -> Result<Taken, Refusal> {
+        self.take_when_full(report, minute, WhenFull::Keep)
+    }
+
+    /// The same at one minute.
     pub fn take(&mut self, report: &Report) -> Result<Taken, Refusal> {
         self.take_at(report, MINUTE)
     }
@@ -95,11 +121,11 @@ impl Table {
     }
 }
 
-/// A take that stored, with no record expired.
+/// A take that stored, with no record expired or dropped.
 pub fn stored(matched: usize, place: usize) -> Result<Taken, Refusal> {
     Ok(Taken {
-        expired: 0,
         matched,
         place: Some(place),
+        ..Taken::default()
     })
 }
