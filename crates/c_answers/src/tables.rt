@@ -1,19 +1,61 @@
 // The message table.
 ghost use mathlib.Core.Path.{_≡_};
-ghost use Rattle.c_answers.specs.Tables.{tableAnswer, renewalTold, recordReading, expiryTold};
+ghost use Rattle.c_answers.specs.Tables.{choiceOf, chosenStep, chosenTable, tableAnswer, renewalTold, recordReading, expiryTold};
 use c_values::reports::PlainReport;
+use checks::Arrival;
 use clock::Expiry;
+use clock::Utc;
+use lent::lent_fit;
 use record::Service;
 use record_report::Reading;
 use table::Answer;
+use table::Step;
+use table::Table;
+use table::WhenFull;
 
-// How many records expired and matched, whether the report was stored (1, else 0), and its place.
+// Takes a report, the choice for a full table given by its number. Another number is refused (9) after the table, catalogue or lives (10)
+// and before all else.
+pub fn take(
+    t: &mut [u8],
+    catalogue: &[u16],
+    lives: &[u16],
+    last: Utc,
+    arrival: Arrival,
+    lto: i8,
+    choice: u8,
+) -> Step
+    ensures { λ s. ⌜ s ≡ chosenStep (now (t .entry)) (now (catalogue .entry)) (now (lives .entry)) (last .0) arrival lto choice ⌝ }
+    ensures { λ _. ⌜ now (t .exit) ≡ chosenTable (now (t .entry)) (now (catalogue .entry)) (now (lives .entry)) (last .0) arrival lto choice ⌝ }
+{
+    if 1 < choice {
+        return Step {
+            last,
+            answer: Answer::Refused(if lent_fit(t, catalogue, lives) { 9 } else { 10 }),
+        };
+    }
+    Table::take(t, catalogue, lives, last, arrival, lto, when_full(choice))
+}
+
+// What a full table does, by number.
+fn when_full(choice: u8) -> WhenFull
+    ensures { λ w. ⌜ w ≡ choiceOf choice ⌝ }
+{
+    if choice == 1 {
+        WhenFull::Keep
+    } else {
+        WhenFull::Drop
+    }
+}
+
+// How many records expired and matched, whether the report was stored (1, else 0), its place, and whether the record that stood there was
+// dropped for it (1, else 0).
 #[repr(C)]
 pub struct TableAnswer {
     pub expired: usize,
     pub matched: usize,
     pub place: usize,
     pub stored: u8,
+    pub dropped: u8,
     pub refusal: u8,
 }
 
@@ -26,6 +68,7 @@ impl TableAnswer {
             matched: 0,
             place: 0,
             stored: 0,
+            dropped: 0,
             refusal: 0,
         };
         match answer {
@@ -45,6 +88,14 @@ impl TableAnswer {
                 r.stored = 1;
                 r
             }
+            Answer::Dropped { place } => TableAnswer {
+                expired: 0,
+                matched: 0,
+                place,
+                stored: 1,
+                dropped: 1,
+                refusal: 0,
+            },
             Answer::Refused(n) => {
                 r.refusal = n;
                 r

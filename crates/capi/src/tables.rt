@@ -1,16 +1,16 @@
 // The message table.
 ghost use mathlib.Core.Path.{_≡_};
-ghost use Rattle.table.specs.Take.{takeStep, takeTable};
 ghost use Rattle.table.specs.Read.{recordAt};
 ghost use Rattle.table.specs.Expire.{expireStep, expireTable};
 ghost use Rattle.renewal.specs.Renewal.{renewAnswer, renewTable};
 ghost use Rattle.clock.specs.Expiry.{expiryAnswer};
 ghost use Rattle.record_report.specs.Reads.{readingOf};
-ghost use Rattle.c_answers.specs.Tables.{arrivalOf, tableAnswer, renewalTold, recordReading, expiryTold};
+ghost use Rattle.c_answers.specs.Tables.{arrivalOf, chosenStep, chosenTable, tableAnswer, renewalTold, recordReading, expiryTold};
 use c_answers::tables::ExpiryAnswer;
 use c_answers::tables::RecordReading;
 use c_answers::tables::Renewal;
 use c_answers::tables::TableAnswer;
+use c_answers::tables::take;
 use c_values::reports::PlainReport;
 use checks::Arrival;
 use clock::Utc;
@@ -18,7 +18,8 @@ use record::Service;
 use renewal::renew;
 use table::Table;
 
-// Takes a report of a service at a minute. The location of an INTER-ROAD report is the real one, in the table of its FLT code.
+// Takes a report of a service at a minute, with the choice for a full table. The location of an INTER-ROAD report is the real one, in the
+// table of its FLT code.
 #[no_mangle]
 pub extern "C" fn alertc_table_take(
     table: &mut [u8],
@@ -29,17 +30,18 @@ pub extern "C" fn alertc_table_take(
     service: Service,
     minute: u32,
     lto: i8,
+    choice: u8,
 ) -> TableAnswer
-    ensures { λ r. ⌜ r ≡ tableAnswer (takeStep (now (table .entry)) (now (catalogue .entry)) (now (lives .entry)) (now (clock .entry)) (arrivalOf report service minute) lto .answer) ⌝ }
-    ensures { λ _. ⌜ now (table .exit) ≡ takeTable (now (table .entry)) (now (catalogue .entry)) (now (lives .entry)) (now (clock .entry)) (arrivalOf report service minute) lto ⌝ }
-    ensures { λ _. ⌜ now (clock .exit) ≡ takeStep (now (table .entry)) (now (catalogue .entry)) (now (lives .entry)) (now (clock .entry)) (arrivalOf report service minute) lto .last .0 ⌝ }
+    ensures { λ r. ⌜ r ≡ tableAnswer (chosenStep (now (table .entry)) (now (catalogue .entry)) (now (lives .entry)) (now (clock .entry)) (arrivalOf report service minute) lto choice .answer) ⌝ }
+    ensures { λ _. ⌜ now (table .exit) ≡ chosenTable (now (table .entry)) (now (catalogue .entry)) (now (lives .entry)) (now (clock .entry)) (arrivalOf report service minute) lto choice ⌝ }
+    ensures { λ _. ⌜ now (clock .exit) ≡ chosenStep (now (table .entry)) (now (catalogue .entry)) (now (lives .entry)) (now (clock .entry)) (arrivalOf report service minute) lto choice .last .0 ⌝ }
 {
     let arrival = Arrival {
         report: report.report(),
         service,
         minute: Utc(minute),
     };
-    let step = Table::take(table, catalogue, lives, Utc(*clock), arrival, lto);
+    let step = take(table, catalogue, lives, Utc(*clock), arrival, lto, choice);
     let last = step.last;
     let answer = step.answer;
     *clock = last.0;

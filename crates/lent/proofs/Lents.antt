@@ -1,5 +1,5 @@
 -- What a table, a catalogue and lives that fit say.
-use Prim.Native.Nat.{ℕ, zero, suc, _+_, _*_, _%_, _≤_, _<_}
+use Prim.Native.Nat.{ℕ, zero, suc, _+_, _*_, _/_, _%_, _≤_, _<_}
 use native.Mathlib.Omega.{arith}
 use mathlib.Core.Path.{_≡_, refl, sym, ap, ap₂, _∙_}
 use mathlib.Core.Bool.{Bool, true, false, not, _&&_, _||_}
@@ -26,6 +26,14 @@ table-whole t h =
     let s = and-left (leb recordSize (length t) && (leb (length t) (1024 * recordSize) && last)) (allOf wellFormed (records t)) h in
     eqb-true (length t % recordSize) 0 (and-right (leb (length t) (1024 * recordSize)) last (and-right (leb recordSize (length t)) (leb (length t) (1024 * recordSize) && last) s))
 
+-- it has a record at least
+pub table-some : (t : List ℕ) → tableFits t ≡ true → 0 < length t / recordSize
+unfolding tableFits sized
+table-some t h =
+    let rest = leb (length t) (1024 * recordSize) && eqb (length t % recordSize) 0 in
+    let some = leb-true recordSize (length t) (and-left (leb recordSize (length t)) rest (and-left (leb recordSize (length t) && rest) (allOf wellFormed (records t)) h)) in
+    omega arith
+
 pub table-records : (t : List ℕ) → tableFits t ≡ true → allOf wellFormed (records t) ≡ true
 unfolding tableFits
 table-records t h = and-right (sized t) (allOf wellFormed (records t)) h
@@ -39,17 +47,12 @@ chunk-at zero i t h = absurd (omega arith)
 chunk-at (suc n) zero t h = refl
 chunk-at (suc n) (suc i) t h = chunk-at n i (drop recordSize t) (omega arith) ∙ nth-next t i
 
-pub all-at : (p : List ℕ → Bool) (n i : ℕ) (t : List ℕ) → allOf p (chunks n t) ≡ true → i < n → p (nth t i) ≡ true
-unfolding allOf chunks
-all-at p zero i t a h = absurd (omega arith)
-all-at p (suc n) zero t a h = and-left (p (take recordSize t)) (allOf p (chunks n (drop recordSize t))) a
-all-at p (suc n) (suc i) t a h = ap p (sym (nth-next t i)) ∙ all-at p n i (drop recordSize t) (and-right (p (take recordSize t)) (allOf p (chunks n (drop recordSize t))) a) (omega arith)
-
-entry-at : (p : ℕ → Bool) (l : List ℕ) (i : ℕ) → allOf p l ≡ true → i < length l → p (getD l i 0) ≡ true
+-- a test that holds of every one holds of each
+pub all-at : {A : Type 0} (p : A → Bool) (xs : List A) (i : ℕ) (d : A) → allOf p xs ≡ true → i < length xs → p (getD xs i d) ≡ true
 unfolding allOf
-entry-at p [] i a h = absurd (omega arith)
-entry-at p (x ∷ l) zero a h = and-left (p x) (allOf p l) a
-entry-at p (x ∷ l) (suc i) a h = entry-at p l i (and-right (p x) (allOf p l) a) (omega arith)
+all-at p [] i d a h = absurd (omega arith)
+all-at p (x ∷ xs) zero d a h = and-left (p x) (allOf p xs) a
+all-at p (x ∷ xs) (suc i) d a h = all-at p xs i d (and-right (p x) (allOf p xs) a) (omega arith)
 
 -- an event that has an update class has one other than 0
 pub class-some : (x : ℕ) → entryFits x ≡ true → hasClass x ≡ true → 1 ≤ classOf x
@@ -77,7 +80,7 @@ unfolding catalogueFits entryFits
 catalogue-entry c i h = by-end (ltb i (length c)) refl
   where
     by-end : (b : Bool) → ltb i (length c) ≡ b → entryFits (getD c i 0) ≡ true
-    by-end true e = entry-at entryFits c i (and-right (eqb (length c) 2048) (allOf entryFits c) h) (ltb-true i (length c) e)
+    by-end true e = all-at entryFits c i 0 (and-right (eqb (length c) 2048) (allOf entryFits c) h) (ltb-true i (length c) e)
     by-end false e = ap entryFits (List·getD-eq-default c 0 {n = i} (ltb-false i (length c) e))
 
 module _ (t c l : List ℕ) (h : lentFit t c l ≡ true) where
@@ -107,4 +110,4 @@ module _ (t c l : List ℕ) (h : lentFit t c l ≡ true) where
   lent-lives = eqb-true (length l) 16 (and-left (eqb (length l) 16) (allOf (λ x. leb x longestLife) l) lent-lives-fit)
 
   pub life-short : (i : ℕ) → i < length l → getD l i 0 ≤ longestLife
-  life-short i k = leb-true (getD l i 0) longestLife (entry-at (λ x. leb x longestLife) l i (and-right (eqb (length l) 16) (allOf (λ x. leb x longestLife) l) lent-lives-fit) k)
+  life-short i k = leb-true (getD l i 0) longestLife (all-at (λ x. leb x longestLife) l i 0 (and-right (eqb (length l) 16) (allOf (λ x. leb x longestLife) l) lent-lives-fit) k)

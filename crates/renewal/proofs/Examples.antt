@@ -5,49 +5,31 @@ use mathlib.Core.Path.{_≡_, refl}
 use mathlib.Core.List.{List, [], _∷_, _++_}
 use lib.IntN.{pos}
 use lib.ListN.{set, replicate}
-use Rattle.bits.specs.Lists.{joined}
-use Rattle.bits.specs.Bits.{bits, bit, num, val, allZero}
-use Rattle.bits.specs.Fields.{flat, fits, unpack, words}
 use Rattle.word.specs.declared.Head.{Head}
 use Rattle.content.specs.Widths.{widths, width}
 use Rattle.content.specs.Items.{valued, labelled, first, andThen, readBy, itemsWithin, items}
 use Rattle.content.specs.Content.{content}
-use Rattle.content.specs.Stored.{filled, listed, wellPlaced, allZeroItems}
-use Rattle.content.specs.Packing.{itemBits, packing, itemFits, allFit, zeroItem, lastZero, packable, writable}
+use Rattle.content.specs.Packing.{itemFits}
 use Rattle.report.specs.declared.Report.{Report}
-use Rattle.report.specs.Report.{firstWhere, singleReport, multiReport}
+use Rattle.report.specs.Report.{singleReport, multiReport}
 use Rattle.report.specs.Read.{readItems}
-use Rattle.report.specs.Record.{bytesOf, groupsFor, groupsOf}
-use Rattle.location.specs.Flt.{fltFields, isFlt, foreign}
-use Rattle.report.specs.InterRoad.{interRoad, itemsAt, realBits, contentOf}
-use Rattle.report.specs.Fits.{singleFits, agrees, itemsFit, contentFits, multiFits, fitsBy, realFits, reportFits}
-use Rattle.clock.specs.Time.{offsetFits, expiryOf}
 use Rattle.record.specs.declared.Service.{Service}
-use Rattle.record.specs.Locations.{locationOf, headLocation, realLocation}
+use Rattle.record.specs.Locations.{headLocation, realLocation}
 use Rattle.record.specs.Layout.{freeRecord, fourBytes, eightBytes, withSet}
-use Rattle.record.specs.Classes.{setOf}
-use Rattle.record.specs.Matching.{matching}
-use Rattle.record.specs.Gone.{expired, freedIf, oneRecord}
+use Rattle.record.specs.Gone.{oneRecord}
 use Rattle.record.specs.WellFormed as form
 use Rattle.record_report.specs.declared.Answer.the-variants as reading
 use Rattle.record_report.specs.Made.{recordOf}
 use Rattle.record_report.specs.Reads.{messageIn, messageOf, nothing, answered, readingIn}
-use Rattle.lent.specs.Records.{chunks, records, allOf}
-use Rattle.lent.specs.Table.{sized, tableFits}
-use Rattle.lent.specs.Catalogue.{entryFits, catalogueFits}
-use Rattle.lent.specs.Lives.{livesFit}
-use Rattle.lent.specs.Lent.{lentFit}
-use Rattle.classes.specs.Events.{additionalEvents, eventsOf}
-use Rattle.classes.specs.Classes.{eventClasses, classesOf}
 use Rattle.checks.specs.declared.Arrival.{Arrival}
-use Rattle.checks.specs.Checks.{askedFit, laterRefusal, checkRefusal}
 use Rattle.table.specs.declared.Step.{Step}
+use Rattle.table.specs.declared.WhenFull.the-variants.{Keep}
 use Rattle.table.specs.declared.Answer.the-variants.{Freed, Stored, Refused}
-use Rattle.table.specs.Records.{countIf, firstOf, over, countWhere, lowestFree, stored}
-use Rattle.table.specs.Steps.{step, afterMatching, matchedIn, placeIn, afterStoring}
-use Rattle.table.specs.Expire.{expireRefusal, expireStep}
+use Rattle.table.specs.Steps.{step}
+use Rattle.table.specs.Expire.{expireStep}
 use Rattle.table.specs.Read.{recordAt}
-use Rattle.table.specs.Take.{matches, takeRefusal, takenStep, takenTable, takeStep, takeTable}
+use Rattle.table.specs.Take.{takeStep, takeTable}
+use Rattle.table.proofs.Examples.{computing}
 use Rattle.renewal.specs.declared.Answer.the-variants as renewal
 use Rattle.renewal.specs.Classes.{classesIn, classed}
 use Rattle.renewal.specs.Renewal.{renewed, renewFits, renewAnswer, renewTable}
@@ -79,7 +61,7 @@ arrival x minute = record { report = x; service = service; minute = record { 0 =
 
 -- a table takes a report at minute 30; every life is 60 minutes
 abbrev taking : List ℕ → Report → Step
-taking t x = takeStep t catalogue (replicate 16 60) 0 (arrival x 30) (pos 0)
+taking t x = takeStep t catalogue (replicate 16 60) 0 (arrival x 30) (pos 0) Keep
 
 -- a record of class 5 whose content is six separators and a label 10 with no bits left for its value
 abbrev unreadable : ℕ → List ℕ
@@ -103,12 +85,12 @@ pub additional-events :
     × (renewAnswer (unreadable 160) catalogue ≡ renewal.Refused 10)
     × (renewAnswer (kept (single 300) 0x20 160) catalogue ≡ renewal.Refused 10)
     × (recordAt (unreadable 160) 0 ≡ nothing (reading.Refused 7))
-unfolding bit bits num val allZero flat fits unpack words widths width valued labelled first andThen readBy itemsWithin items content filled listed wellPlaced allZeroItems itemBits packing itemFits allFit zeroItem lastZero packable writable firstWhere readItems bytesOf groupsFor groupsOf fltFields isFlt foreign interRoad itemsAt realBits contentOf singleFits agrees itemsFit contentFits multiFits fitsBy realFits reportFits offsetFits expiryOf locationOf headLocation realLocation withSet setOf matching expired freedIf form.widths form.within form.rangesFit form.marked form.complete form.restFits form.wellFormed oneRecord recordOf messageIn messageOf nothing answered readingIn chunks records allOf joined sized tableFits entryFits catalogueFits livesFit lentFit additionalEvents eventsOf eventClasses classesOf askedFit laterRefusal checkRefusal countIf firstOf over countWhere lowestFree stored afterMatching matchedIn placeIn afterStoring expireRefusal expireStep recordAt matches takeRefusal takenStep takenTable takeStep takeTable classesIn classed renewed renewFits renewAnswer renewTable
+unfolding computing widths width valued labelled first andThen readBy itemsWithin items content itemFits readItems headLocation realLocation withSet oneRecord messageIn messageOf nothing answered readingIn recordAt classesIn classed renewed renewFits renewAnswer renewTable
 additional-events = (refl, refl, refl, refl, refl, refl, refl, refl, refl, refl)
 
 -- what an all-free table of one record keeps of a report that arrives at minute 100, by a catalogue
 abbrev keeps : List ℕ → Report → List ℕ
-keeps c x = takeTable freeRecord c (replicate 16 60) 0 (arrival x 100) (pos 0)
+keeps c x = takeTable freeRecord c (replicate 16 60) 0 (arrival x 100) (pos 0) Keep
 
 -- the record of the accident with the lane closure for a duration of 2, with the bytes of its set
 abbrev bytes201 : List ℕ → List ℕ
@@ -135,5 +117,5 @@ pub stored-sets :
     × (expiring (bytes201 (replicate 8 0)) ≡ step 0 (Refused 10))
     × (expiring (bytes201 (0x21 ∷ 0x02 ∷ replicate 6 0)) ≡ step 0 (Refused 10))
     × (expiring (set (bytes201 (0x20 ∷ 0x02 ∷ replicate 6 0)) 30 9) ≡ step 0 (Refused 10))
-unfolding bit bits num val allZero flat fits unpack words widths width valued labelled first andThen readBy itemsWithin items content filled listed wellPlaced allZeroItems itemBits packing itemFits allFit zeroItem lastZero packable writable firstWhere readItems bytesOf groupsFor groupsOf fltFields isFlt foreign interRoad itemsAt realBits contentOf singleFits agrees itemsFit contentFits multiFits fitsBy realFits reportFits offsetFits expiryOf locationOf headLocation realLocation withSet setOf matching expired freedIf form.widths form.within form.rangesFit form.marked form.complete form.restFits form.wellFormed oneRecord recordOf messageIn messageOf nothing answered readingIn chunks records allOf joined sized tableFits entryFits catalogueFits livesFit lentFit additionalEvents eventsOf eventClasses classesOf askedFit laterRefusal checkRefusal countIf firstOf over countWhere lowestFree stored afterMatching matchedIn placeIn afterStoring expireRefusal expireStep recordAt matches takeRefusal takenStep takenTable takeStep takeTable classesIn classed renewed renewFits renewAnswer renewTable
+unfolding computing widths width valued labelled first andThen readBy itemsWithin items content itemFits readItems headLocation realLocation withSet oneRecord messageIn messageOf nothing answered readingIn recordAt classesIn classed renewed renewFits renewAnswer renewTable
 stored-sets = (refl, refl, refl, refl, refl, refl, refl, refl, refl, refl, refl)

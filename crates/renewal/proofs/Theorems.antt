@@ -33,6 +33,7 @@ use Rattle.checks.specs.declared.Arrival.{Arrival}
 use Rattle.checks.specs.Events.{kindFor, expiryFor}
 use Rattle.checks.proofs.Checked.{Checked, ends}
 use Rattle.table.specs.Effect.{usedIn}
+use Rattle.table.specs.declared.WhenFull.{WhenFull}
 use Rattle.table.specs.Take.{recordFor, takeRefusal}
 use Rattle.table.specs.Records.{over}
 use Rattle.table.proofs.Counts.{all-within, all-both, all-map}
@@ -126,9 +127,9 @@ renewal-same t c h = by-fits (renewFits t c) refl
     by-fits false refused = sym (refused-renewal t c refused .1)
 
 -- A report's record that a take stores.
-module _ (c t lives : List ℕ) (last : ℕ) (a : Arrival) (lto : ℤ) (sized : length (a .report .items .places) ≡ limit) (fine : takeRefusal t c lives last a lto ≡ 0) (is-1 : kindFor c (a .report) ≡ 1) where
+module _ (c t lives : List ℕ) (last : ℕ) (a : Arrival) (lto : ℤ) (full : WhenFull) (sized : length (a .report .items .places) ≡ limit) (fine : takeRefusal t c lives last a lto full ≡ 0) (is-1 : kindFor c (a .report) ≡ 1) where
   checked : Checked t c lives last a lto
-  checked = ok t c lives last a lto fine
+  checked = ok t c lives last a lto full fine
 
   stored-classed : classed c (recordFor c lives a lto) ≡ true
   stored-classed =
@@ -164,10 +165,10 @@ module _ (c : List ℕ) where
     all-within isFree (current c) (records t) (free-current c) free,
   )
   always t (brings u fits) = (renewal-classed u c fits, renewal-current u c fits)
-  always t (takes u lives last a lto sized made) =
+  always t (takes u lives last a lto full sized made) =
       let was = always u made in (
-        each-keeps u c lives last a lto (classed c) (free-classed c freeRecord refl) (stored-classed c u lives last a lto sized) (was .0),
-        each-keeps u c lives last a lto (current c) (free-current c freeRecord refl) (stored-current c u lives last a lto sized) (was .1),
+        each-keeps u c lives last a lto full (classed c) (free-classed c freeRecord refl) (stored-classed c u lives last a lto full sized) (was .0),
+        each-keeps u c lives last a lto full (current c) (free-current c freeRecord refl) (stored-current c u lives last a lto full sized) (was .1),
       )
   always t (expires u last minute made) =
       let was = always u made in

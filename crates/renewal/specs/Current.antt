@@ -16,6 +16,7 @@ use Rattle.record.specs.Matching.{sameService, sameLocation}
 use Rattle.lent.specs.Records.{records, allOf}
 use Rattle.classes.specs.Classes.{classesOf}
 use Rattle.checks.specs.declared.Arrival.{Arrival}
+use Rattle.table.specs.declared.WhenFull.{WhenFull}
 use Rattle.table.specs.Expire.{expireTable}
 use Rattle.table.specs.Take.{takeTable}
 use Rattle.renewal.specs.Classes.{classesIn}
@@ -33,7 +34,7 @@ pub data Made (catalogue : List ℕ) : List ℕ → Type 0 where
   starts : (t : List ℕ) → allOf isFree (records t) ≡ true → Made catalogue t
   brings : (t : List ℕ) → renewFits t catalogue ≡ true → Made catalogue (renewTable t catalogue)
   -- a report has 28 places, as every report of the code has
-  takes : (t lives : List ℕ) (last : ℕ) (a : Arrival) (lto : ℤ) → length (a .report .items .places) ≡ limit → Made catalogue t → Made catalogue (takeTable t catalogue lives last a lto)
+  takes : (t lives : List ℕ) (last : ℕ) (a : Arrival) (lto : ℤ) (full : WhenFull) → length (a .report .items .places) ≡ limit → Made catalogue t → Made catalogue (takeTable t catalogue lives last a lto full)
   expires : (t : List ℕ) (last minute : ℕ) → Made catalogue t → Made catalogue (expireTable t last minute)
   renews : (t : List ℕ) → Made catalogue t → Made catalogue (renewTable t catalogue)
 

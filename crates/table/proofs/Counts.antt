@@ -6,7 +6,7 @@ use mathlib.Core.Bool.{Bool, true, false, cond, not, _&&_, _||_}
 use mathlib.Core.List.{List, [], _∷_, _++_, map}
 use lib.ListN.{length, set, getD}
 use Rattle.bits.specs.Bits.{num}
-use Rattle.bits.proofs.Choice.{and-left, and-right}
+use Rattle.bits.proofs.Choice.{and-left, and-right, chosen, passed-over}
 use Rattle.record.specs.Gone.{either, onlySecond}
 use Rattle.lent.specs.Records.{allOf}
 use Rattle.table.specs.Records.{countIf, firstOf}
@@ -89,11 +89,53 @@ first-none p (r ∷ rs) h = by-test (p r) h (first-none p rs)
     by-test true k rest = absurd (omega arith)
     by-test false k rest = omega (arith, rest (omega arith))
 
+-- none before it does
+pub first-before : (p : List ℕ → Bool) (rs : List (List ℕ)) (i : ℕ) (d : List ℕ) → i < firstOf p rs → p (getD rs i d) ≡ false
+unfolding firstOf
+first-before p [] i d h = absurd (omega arith)
+first-before p (r ∷ rs) i d h = by-test (p r) refl i h (λ j. first-before p rs j d)
+  where
+    by-test : (b : Bool) → p r ≡ b → (j : ℕ) → j < cond b 0 (suc (firstOf p rs)) → ((k : ℕ) → k < firstOf p rs → p (getD rs k d) ≡ false) → p (getD (r ∷ rs) j d) ≡ false
+    by-test true e j k rest = absurd (omega arith)
+    by-test false e zero k rest = e
+    by-test false e (suc j) k rest = rest j (omega arith)
+
+-- tests that say the same of each record have the same first one
+pub first-same : (p q : List ℕ → Bool) (rs : List (List ℕ)) (d : List ℕ) → ((i : ℕ) → i < length rs → p (getD rs i d) ≡ q (getD rs i d)) → firstOf p rs ≡ firstOf q rs
+unfolding firstOf
+first-same p q [] d same = refl
+first-same p q (r ∷ rs) d same = ap₂ (λ (b : Bool) (n : ℕ). cond b 0 (suc n)) (same 0 (omega arith)) (first-same p q rs d (λ i h. same (suc i) (omega arith)))
+
+-- with one record more after them
+pub first-snoc : (p : List ℕ → Bool) (rs : List (List ℕ)) (r : List ℕ) → firstOf p rs < length rs → firstOf p (rs ++ (r ∷ [])) ≡ firstOf p rs
+unfolding firstOf
+first-snoc p [] r h = absurd (omega arith)
+first-snoc p (x ∷ rs) r h = by-test (p x) h (first-snoc p rs r)
+  where
+    by-test : (b : Bool) → cond b 0 (suc (firstOf p rs)) < suc (length rs) → (firstOf p rs < length rs → firstOf p (rs ++ (r ∷ [])) ≡ firstOf p rs) → cond b 0 (suc (firstOf p (rs ++ (r ∷ [])))) ≡ cond b 0 (suc (firstOf p rs))
+    by-test true k rest = refl
+    by-test false k rest = ap suc (rest (omega arith))
+
+pub first-last : (p q : List ℕ → Bool) (rs : List (List ℕ)) (r : List ℕ) → ((x : List ℕ) → q x ≡ true → p x ≡ false) → allOf q rs ≡ true → p r ≡ true → firstOf p (rs ++ (r ∷ [])) ≡ length rs
+unfolding firstOf allOf
+first-last p q [] r says h e = chosen _ _ _ e
+first-last p q (x ∷ rs) r says h e = passed-over _ _ _ (says x (and-left (q x) (allOf q rs) h)) ∙ ap suc (first-last p q rs r says (and-right (q x) (allOf q rs) h) e)
+
 -- a test holds of all records if another does that says so of each
 pub all-within : (p q : List ℕ → Bool) (rs : List (List ℕ)) → ((r : List ℕ) → p r ≡ true → q r ≡ true) → allOf p rs ≡ true → allOf q rs ≡ true
 unfolding allOf
 all-within p q [] says h = refl
 all-within p q (r ∷ rs) says h = ap₂ (λ (a b : Bool). a && b) (says r (and-left (p r) (allOf p rs) h)) (all-within p q rs says (and-right (p r) (allOf p rs) h))
+
+-- a test that holds of none
+pub none-all : (p : List ℕ → Bool) (rs : List (List ℕ)) → countIf p rs ≡ 0 → allOf (λ r. not (p r)) rs ≡ true
+unfolding allOf countIf num
+none-all p [] h = refl
+none-all p (r ∷ rs) h = by-test (p r) h (none-all p rs)
+  where
+    by-test : (b : Bool) → num b + countIf p rs ≡ 0 → (countIf p rs ≡ 0 → allOf (λ x. not (p x)) rs ≡ true) → not b && allOf (λ x. not (p x)) rs ≡ true
+    by-test true k rest = absurd (omega arith)
+    by-test false k rest = rest (omega arith)
 
 -- two tests at once
 pub all-both : (p q : List ℕ → Bool) (rs : List (List ℕ)) → allOf p rs ≡ true → allOf q rs ≡ true → allOf (λ r. p r && q r) rs ≡ true
@@ -102,7 +144,12 @@ all-both p q [] h k = refl
 all-both p q (r ∷ rs) h k =
     ap₂ (λ (a b : Bool). a && b) (ap₂ (λ (a b : Bool). a && b) (and-left (p r) (allOf p rs) h) (and-left (q r) (allOf q rs) k)) (all-both p q rs (and-right (p r) (allOf p rs) h) (and-right (q r) (allOf q rs) k))
 
--- of records changed by a function, or where one is another
+-- of one record more, of records changed by a function, or where one is another
+pub all-snoc : (p : List ℕ → Bool) (rs : List (List ℕ)) (r : List ℕ) → allOf p rs ≡ true → p r ≡ true → allOf p (rs ++ (r ∷ [])) ≡ true
+unfolding allOf
+all-snoc p [] r h e = ap (λ (b : Bool). b && true) e
+all-snoc p (x ∷ rs) r h e = ap₂ (λ (a b : Bool). a && b) (and-left (p x) (allOf p rs) h) (all-snoc p rs r (and-right (p x) (allOf p rs) h) e)
+
 pub all-map : (p : List ℕ → Bool) (f : List ℕ → List ℕ) (rs : List (List ℕ)) → allOf p (map f rs) ≡ allOf (λ r. p (f r)) rs
 unfolding allOf
 all-map p f [] = refl

@@ -11,10 +11,10 @@ use Rattle.bits.specs.Bits.{num}
 use Rattle.record.specs.Layout.{recordSize, freeRecord, isFree}
 use Rattle.record.specs.Gone.{expired, either, onlySecond, freedIf, oneRecord}
 use Rattle.record.proofs.Steps.{freed, unfreed, one-record, one-freed}
-use Rattle.lent.specs.Records.{chunks, records}
+use Rattle.lent.specs.Records.{chunks, records, allOf}
 use Rattle.table.specs.Records.{countIf, firstOf, over, freeWhere, countWhere, lowestFree}
-use Rattle.table.specs.Steps.{afterMatching, matchedIn, placeIn}
-use Rattle.table.proofs.Counts.{num-le, count-le, count-map, count-none, count-within, first-none}
+use Rattle.table.specs.Steps.{afterMatching, matchedIn, freeIn}
+use Rattle.table.proofs.Counts.{num-le, count-le, count-map, count-none, count-either, count-within, first-none, none-all}
 use Rattle.table.proofs.Sweeps.{Keeps, length-chunks, length-records, swept, part-sized, swept-next, count-next, length-over, records-over, over-over}
 use Rattle.table.proofs.Storing.{joined-records}
 
@@ -46,11 +46,11 @@ module _ (p : List ℕ → Bool) where
       by-test true e k rest = absurd (omega arith)
       by-test false e k rest = ap₂ (λ (x : List ℕ) (xs : List (List ℕ)). x ∷ xs) (sym (unfreed p r e .1)) (rest (omega arith))
 
-  -- where no record is free afterwards, none was freed
-  pub none-left : (rs : List (List ℕ)) → length rs ≤ firstOf isFree (map (freedIf p) rs) → map (freedIf p) rs ≡ rs
+  -- where no record is free afterwards, the test holds of none
+  pub none-left : (rs : List (List ℕ)) → length rs ≤ firstOf isFree (map (freedIf p) rs) → countIf p rs ≡ 0
   none-left rs h =
       let none : countIf (λ r. isFree (freedIf p r)) rs ≡ 0 = sym (count-map isFree (λ r. isFree (freedIf p r)) (freedIf p) rs (λ r. refl)) ∙ first-none isFree (map (freedIf p) rs) (omega (arith, length-map rs (freedIf p))) in
-      none-freed rs (omega (arith, count-within p (λ r. isFree (freedIf p r)) rs (λ r e. ap isFree (sym (freed p r e .1)))))
+      omega (arith, count-within p (λ r. isFree (freedIf p r)) rs (λ r e. ap isFree (sym (freed p r e .1))))
 
 -- one test and then another
 module _ (p q : List ℕ → Bool) (never : q freeRecord ≡ false) where
@@ -120,15 +120,31 @@ module _ (minute : ℕ) (q : List ℕ → Bool) (never : q freeRecord ≡ false)
   pub records-both : records (afterMatching minute q t) ≡ map (freedIf (either (expired minute) q)) (records t)
   records-both = ap records both-at-once ∙ records-over (freedIf (either (expired minute) q)) (freed-keeps (either (expired minute) q)) t whole
 
-  pub place-is : placeIn minute q t ≡ firstOf isFree (map (freedIf (either (expired minute) q)) (records t))
-  unfolding placeIn lowestFree
-  place-is = ap (firstOf isFree) records-both
+  pub free-is : freeIn minute q t ≡ firstOf isFree (map (freedIf (either (expired minute) q)) (records t))
+  unfolding freeIn lowestFree
+  free-is = ap (firstOf isFree) records-both
 
-  -- where there is no room, nothing was freed
-  pub none-gone : length t / recordSize ≤ placeIn minute q t → afterMatching minute q t ≡ t
-  unfolding over
-  none-gone h =
-      both-at-once ∙ ap joined (none-left (either (expired minute) q) (records t) (omega (arith, length-records t, place-is))) ∙ joined-records t whole
+  -- where there is no room
+  module _ (full : length t / recordSize ≤ freeIn minute q t) where
+    none-either : countIf (either (expired minute) q) (records t) ≡ 0
+    none-either = none-left (either (expired minute) q) (records t) (omega (arith, length-records t, free-is))
+
+    pub as-they-were : map (freedIf (either (expired minute) q)) (records t) ≡ records t
+    as-they-were = none-freed (either (expired minute) q) (records t) none-either
+
+    -- nothing was freed, none had expired, none matched, and all are used
+    pub none-gone : afterMatching minute q t ≡ t
+    unfolding over
+    none-gone = both-at-once ∙ ap joined as-they-were ∙ joined-records t whole
+
+    pub none-expired : countIf (expired minute) (records t) ≡ 0
+    none-expired = omega (arith, none-either, count-either (expired minute) q (records t))
+
+    pub none-matched : countIf (onlySecond (expired minute) q) (records t) ≡ 0
+    none-matched = omega (arith, none-either, count-either (expired minute) q (records t))
+
+    pub all-used : allOf (λ r. not (isFree r)) (records t) ≡ true
+    all-used = none-all isFree (records t) (first-none isFree (records t) (omega (arith, length-records t, free-is ∙ ap (firstOf isFree) as-they-were)))
 
 -- where nothing matches, step 2 does nothing
 module _ (minute : ℕ) (t : List ℕ) (whole : length t % recordSize ≡ 0) where

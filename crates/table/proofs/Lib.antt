@@ -1,11 +1,14 @@
 pub mod Searching
 pub mod Counts
 pub mod Sweeps
+pub mod Soonest
 pub mod Storing
 pub mod Freeing
 pub mod Storable
 pub mod Takes
 pub mod Accepted
+pub mod Keeping
 pub mod Demand2
 pub mod Theorems
 pub mod Examples
+pub mod FullTables

@@ -33,7 +33,7 @@ pub length-records : (t : List ℕ) → length (records t) ≡ length t / record
 unfolding records
 length-records t = length-chunks (length t / recordSize) t
 
-chunks-suc : (i : ℕ) (t : List ℕ) → chunks (suc i) t ≡ chunks i t ++ (nth t i ∷ [])
+pub chunks-suc : (i : ℕ) (t : List ℕ) → chunks (suc i) t ≡ chunks i t ++ (nth t i ∷ [])
 unfolding chunks
 chunks-suc zero t = refl
 chunks-suc (suc i) t =

@@ -18,10 +18,11 @@ use Rattle.checks.specs.declared.Arrival.{Arrival}
 use Rattle.checks.specs.Events.{kindFor}
 use Rattle.checks.specs.Checks.{minuteUnfit, checkRefusal}
 use Rattle.table.specs.declared.Step.{Step}
-use Rattle.table.specs.declared.Answer.the-variants.{Freed, Stored, Refused}
-use Rattle.table.specs.Steps.{step, afterExpiry, expiredIn, afterMatching, matchedIn, placeIn, noRoom, afterStoring}
+use Rattle.table.specs.declared.WhenFull.{WhenFull}
+use Rattle.table.specs.declared.Answer.the-variants.{Freed, Refused}
+use Rattle.table.specs.Steps.{step, afterExpiry, expiredIn, afterMatching, matchedIn, noRoom, afterStoring}
 use Rattle.table.specs.Expire.{expireRefusal, expireStep, expireTable}
-use Rattle.table.specs.Take.{matches, matchesOf, recordFor, takeRefusal, takenStep, takenTable, takeStep, takeTable}
+use Rattle.table.specs.Take.{matches, matchesOf, recordFor, keeps, takeRefusal, storingAnswer, takenStep, takenTable, takeStep, takeTable}
 use Rattle.table.proofs.Freeing.{nothing-matched, nothing-changed}
 
 -- no free record matches
@@ -34,19 +35,19 @@ pub matches-is : (kind : ℕ) (q : List ℕ → Bool) (b : Bool) → eqb kind 1 
 unfolding matches
 matches-is kind q b e = ap {B = List ℕ → Bool} (λ (x : Bool). λ r. x && q r) e
 
-module _ (t c l : List ℕ) (last : ℕ) (a : Arrival) (lto : ℤ) where
+module _ (t c l : List ℕ) (last : ℕ) (a : Arrival) (lto : ℤ) (full : WhenFull) where
   abbrev Way : Step → List ℕ → Type 0
-  Way s u = (s ≡ takeStep t c l last a lto) × (u ≡ takeTable t c l last a lto)
+  Way s u = (s ≡ takeStep t c l last a lto full) × (u ≡ takeTable t c l last a lto full)
 
-  pub refused-take : (n : ℕ) → takeRefusal t c l last a lto ≡ n → (n ≡ 0 → ⊥) → Way (step last (Refused n)) t
+  pub refused-take : (n : ℕ) → takeRefusal t c l last a lto full ≡ n → (n ≡ 0 → ⊥) → Way (step last (Refused n)) t
   unfolding takeStep takeTable
   refused-take n e h =
-      let off = ne-eqb (takeRefusal t c l last a lto) 0 (λ z. h (sym e ∙ z)) in
+      let off = ne-eqb (takeRefusal t c l last a lto full) 0 (λ z. h (sym e ∙ z)) in
       (ap (λ (m : ℕ). step last (Refused m)) (sym e) ∙ sym (passed-over _ _ _ off), sym (passed-over _ _ _ off))
 
-  pub accepted-take : takeRefusal t c l last a lto ≡ 0 → Way (takenStep (kindFor c (a .report)) (a .minute .0) (matchesOf c a) t) (takenTable (kindFor c (a .report)) (a .minute .0) (matchesOf c a) (recordFor c l a lto) t)
+  pub accepted-take : takeRefusal t c l last a lto full ≡ 0 → Way (takenStep (kindFor c (a .report)) (a .minute .0) (matchesOf c a) t) (takenTable (kindFor c (a .report)) (a .minute .0) (matchesOf c a) (recordFor c l a lto) t)
   unfolding takeStep takeTable
-  accepted-take e = let on = eq-eqb (takeRefusal t c l last a lto) 0 e in (sym (chosen _ _ _ on), sym (chosen _ _ _ on))
+  accepted-take e = let on = eq-eqb (takeRefusal t c l last a lto full) 0 e in (sym (chosen _ _ _ on), sym (chosen _ _ _ on))
 
   -- refused by the checks
   pub refused-check : (n : ℕ) → n ≡ checkRefusal t c l last a lto → (n ≡ 0 → ⊥) → Way (step last (Refused n)) t
@@ -55,18 +56,22 @@ module _ (t c l : List ℕ) (last : ℕ) (a : Arrival) (lto : ℤ) where
 
   -- past the checks, by the room that there is for an event of kind 1
   module _ (fine : checkRefusal t c l last a lto ≡ 0) where
-    room-refusal : (b : Bool) → eqb (kindFor c (a .report)) 1 && noRoom (a .minute .0) (matchesOf c a) t ≡ b → takeRefusal t c l last a lto ≡ cond b 14 0
+    -- the want of room, where records are kept
+    abbrev wanting : Bool
+    wanting = noRoom (a .minute .0) (matchesOf c a) t && keeps full
+
+    room-refusal : (b : Bool) → eqb (kindFor c (a .report)) 1 && wanting ≡ b → takeRefusal t c l last a lto full ≡ cond b 14 0
     unfolding takeRefusal
     room-refusal b e = chosen _ _ _ (eq-eqb (checkRefusal t c l last a lto) 0 fine) ∙ ap (λ (x : Bool). cond x 14 0) e
 
-    pub no-room : kindFor c (a .report) ≡ 1 → noRoom (a .minute .0) (matchesOf c a) t ≡ true → Way (step last (Refused 14)) t
-    no-room is-1 full = refused-take 14 (room-refusal true (ap₂ (λ (x y : Bool). x && y) (eq-eqb (kindFor c (a .report)) 1 is-1) full)) (λ z. omega arith)
+    pub no-room : kindFor c (a .report) ≡ 1 → wanting ≡ true → Way (step last (Refused 14)) t
+    no-room is-1 none = refused-take 14 (room-refusal true (ap₂ (λ (x y : Bool). x && y) (eq-eqb (kindFor c (a .report)) 1 is-1) none)) (λ z. omega arith)
 
-    pub has-room : kindFor c (a .report) ≡ 1 → noRoom (a .minute .0) (matchesOf c a) t ≡ false → takeRefusal t c l last a lto ≡ 0
+    pub has-room : kindFor c (a .report) ≡ 1 → wanting ≡ false → takeRefusal t c l last a lto full ≡ 0
     has-room is-1 room = room-refusal false (ap₂ (λ (x y : Bool). x && y) (eq-eqb (kindFor c (a .report)) 1 is-1) room)
 
-    pub no-room-needed : (kindFor c (a .report) ≡ 1 → ⊥) → takeRefusal t c l last a lto ≡ 0
-    no-room-needed not-1 = room-refusal false (ap (λ (x : Bool). x && noRoom (a .minute .0) (matchesOf c a) t) (ne-eqb (kindFor c (a .report)) 1 not-1))
+    pub no-room-needed : (kindFor c (a .report) ≡ 1 → ⊥) → takeRefusal t c l last a lto full ≡ 0
+    no-room-needed not-1 = room-refusal false (ap (λ (x : Bool). x && wanting) (ne-eqb (kindFor c (a .report)) 1 not-1))
 
     -- by the kind of the event
     module _ (whole : length t % recordSize ≡ 0) where
@@ -80,7 +85,7 @@ module _ (t c l : List ℕ) (last : ℕ) (a : Arrival) (lto : ℤ) where
       match = matching (keyOf c (a .service) (a .report))
 
       -- with a test that says the same as what matches
-      taken : (q : List ℕ → Bool) → matchesOf c a ≡ q → takeRefusal t c l last a lto ≡ 0 → Way (takenStep kind m q t) (takenTable kind m q (recordFor c l a lto) t)
+      taken : (q : List ℕ → Bool) → matchesOf c a ≡ q → takeRefusal t c l last a lto full ≡ 0 → Way (takenStep kind m q t) (takenTable kind m q (recordFor c l a lto) t)
       taken q same e =
           let way = accepted-take e in
           (ap (λ (p : List ℕ → Bool). takenStep kind m p t) (sym same) ∙ way .0, ap (λ (p : List ℕ → Bool). takenTable kind m p (recordFor c l a lto) t) (sym same) ∙ way .1)
@@ -103,9 +108,9 @@ module _ (t c l : List ℕ) (last : ℕ) (a : Arrival) (lto : ℤ) where
           let way = taken match (matches-is kind match true (ap₂ (λ (x y : Bool). x || y) off (eq-eqb kind 2 is-2))) (no-room-needed not-1) in
           (sym (passed-over _ _ _ off) ∙ way .0, sym (passed-over _ _ _ off) ∙ way .1)
 
-      pub ordinary-way : kind ≡ 1 → Way (cond (noRoom m match t) (step last (Refused 14)) (step m (Stored (expiredIn m t) (matchedIn m match t) (placeIn m match t)))) (cond (noRoom m match t) t (afterStoring m match (recordFor c l a lto) t))
+      pub ordinary-way : kind ≡ 1 → Way (cond (noRoom m match t && keeps full) (step last (Refused 14)) (step m (storingAnswer m match t))) (cond (noRoom m match t && keeps full) t (afterStoring m match (recordFor c l a lto) t))
       unfolding takenStep takenTable
-      ordinary-way is-1 = by-room (noRoom m match t) refl
+      ordinary-way is-1 = by-room (noRoom m match t && keeps full) refl
         where
           on : eqb kind 1 ≡ true
           on = eq-eqb kind 1 is-1
@@ -113,13 +118,13 @@ module _ (t c l : List ℕ) (last : ℕ) (a : Arrival) (lto : ℤ) where
           same : matchesOf c a ≡ match
           same = matches-is kind match true (ap (λ (x : Bool). x || eqb kind 2) on)
 
-          full : (b : Bool) → noRoom m match t ≡ b → noRoom m (matchesOf c a) t ≡ b
-          full b e = ap (λ (q : List ℕ → Bool). noRoom m q t) same ∙ e
+          wants : (b : Bool) → noRoom m match t && keeps full ≡ b → noRoom m (matchesOf c a) t && keeps full ≡ b
+          wants b e = ap (λ (q : List ℕ → Bool). noRoom m q t && keeps full) same ∙ e
 
-          by-room : (b : Bool) → noRoom m match t ≡ b → Way (cond (noRoom m match t) (step last (Refused 14)) (step m (Stored (expiredIn m t) (matchedIn m match t) (placeIn m match t)))) (cond (noRoom m match t) t (afterStoring m match (recordFor c l a lto) t))
-          by-room true e = let way = no-room is-1 (full true e) in (chosen _ _ _ e ∙ way .0, chosen _ _ _ e ∙ way .1)
+          by-room : (b : Bool) → noRoom m match t && keeps full ≡ b → Way (cond (noRoom m match t && keeps full) (step last (Refused 14)) (step m (storingAnswer m match t))) (cond (noRoom m match t && keeps full) t (afterStoring m match (recordFor c l a lto) t))
+          by-room true e = let way = no-room is-1 (wants true e) in (chosen _ _ _ e ∙ way .0, chosen _ _ _ e ∙ way .1)
           by-room false e =
-              let way = taken match same (has-room is-1 (full false e)) in
+              let way = taken match same (has-room is-1 (wants false e)) in
               (passed-over _ _ _ e ∙ sym (chosen _ _ _ on) ∙ way .0, passed-over _ _ _ e ∙ sym (chosen _ _ _ on) ∙ way .1)
 
 -- expiry alone

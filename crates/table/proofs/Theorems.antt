@@ -38,6 +38,7 @@ use Rattle.classes.proofs.ReportSets.{set-small}
 use Rattle.checks.specs.declared.Arrival.{Arrival}
 use Rattle.checks.specs.Events.{kindFor, expiryFor}
 use Rattle.checks.proofs.Checked.{asked-report}
+use Rattle.table.specs.declared.WhenFull.{WhenFull}
 use Rattle.table.specs.Records.{countIf, freeWhere, stored}
 use Rattle.table.specs.Steps.{afterMatching, placeIn, afterStoring}
 use Rattle.table.specs.Expire.{expireRefusal, expireTable}
@@ -69,7 +70,7 @@ fits-again s t e each h =
     ap₂ (λ (x y : Bool). x && y) (ap (λ (n : ℕ). leb recordSize n && (leb n (1024 * recordSize) && eqb (n % recordSize) 0)) e ∙ and-left (sized t) (allOf wellFormed (records t)) h) each
 
 -- Taking a report.
-module _ (t c l : List ℕ) (last : ℕ) (a : Arrival) (lto : ℤ) where
+module _ (t c l : List ℕ) (last : ℕ) (a : Arrival) (lto : ℤ) (full : WhenFull) where
   abbrev minute : ℕ
   minute = a .minute .0
 
@@ -81,51 +82,51 @@ module _ (t c l : List ℕ) (last : ℕ) (a : Arrival) (lto : ℤ) where
   kind = kindFor c (a .report)
 
   abbrev after : List ℕ
-  after = takeTable t c l last a lto
+  after = takeTable t c l last a lto full
 
   -- a take keeps the length of the table, and a well-formed table well-formed
   pub same-length : length after ≡ length t
   unfolding afterStoring
   same-length =
-      after-take t c l last a lto (λ u. length u ≡ length t) refl
-      (λ fine. length-both minute match (matches-never t c l last a lto) t (whole t c l last a lto fine))
+      after-take t c l last a lto full (λ u. length u ≡ length t) refl
+      (λ fine. length-both minute match (matches-never t c l last a lto full) t (whole t c l last a lto full fine))
       (λ fine is-1.
-      length-stored (afterMatching minute match t) (recordFor c l a lto) (placeIn minute match t) (both-whole t c l last a lto fine) (both-inside t c l last a lto fine is-1) (made-sized t c l last a lto)
-      ∙ length-both minute match (matches-never t c l last a lto) t (whole t c l last a lto fine))
+      length-stored (afterMatching minute match t) (recordFor c l a lto) (placeIn minute match t) (both-whole t c l last a lto full fine) (both-inside t c l last a lto full fine) (made-sized t c l last a lto full)
+      ∙ length-both minute match (matches-never t c l last a lto full) t (whole t c l last a lto full fine))
 
   -- a test that holds of every record at entry, of a free one and of the one that is stored holds of every record afterwards
-  pub each-keeps : (p : List ℕ → Bool) → p freeRecord ≡ true → (takeRefusal t c l last a lto ≡ 0 → kind ≡ 1 → p (recordFor c l a lto) ≡ true) → allOf p (records t) ≡ true → allOf p (records after) ≡ true
+  pub each-keeps : (p : List ℕ → Bool) → p freeRecord ≡ true → (takeRefusal t c l last a lto full ≡ 0 → kind ≡ 1 → p (recordFor c l a lto) ≡ true) → allOf p (records t) ≡ true → allOf p (records after) ≡ true
   unfolding afterStoring
   each-keeps p free made h =
-      after-take t c l last a lto (λ u. allOf p (records u) ≡ true) h both
+      after-take t c l last a lto full (λ u. allOf p (records u) ≡ true) h both
       (λ fine is-1.
-      stored-each p (afterMatching minute match t) (recordFor c l a lto) (placeIn minute match t) (both-whole t c l last a lto fine) (both-inside t c l last a lto fine is-1) (made-sized t c l last a lto) (both fine)
+      stored-each p (afterMatching minute match t) (recordFor c l a lto) (placeIn minute match t) (both-whole t c l last a lto full fine) (both-inside t c l last a lto full fine) (made-sized t c l last a lto full) (both fine)
       (made fine is-1))
     where
-      both : takeRefusal t c l last a lto ≡ 0 → allOf p (records (afterMatching minute match t)) ≡ true
+      both : takeRefusal t c l last a lto full ≡ 0 → allOf p (records (afterMatching minute match t)) ≡ true
       both fine =
-          let w = whole t c l last a lto fine in
-          ap (λ (u : List ℕ). allOf p (records u)) (both-at-once minute match (matches-never t c l last a lto) t w) ∙ free-each p (either (expired minute) match) t w free h
+          let w = whole t c l last a lto full fine in
+          ap (λ (u : List ℕ). allOf p (records u)) (both-at-once minute match (matches-never t c l last a lto full) t w) ∙ free-each p (either (expired minute) match) t w free h
 
   pub take-keeps : tableFits t ≡ true → tableFits after ≡ true
   take-keeps fits =
-      fits-again after t same-length (each-keeps wellFormed free-fits (λ fine is-1. record-fits t c l last a lto (ok t c l last a lto fine) is-1) (table-records t fits)) fits
+      fits-again after t same-length (each-keeps wellFormed free-fits (λ fine is-1. record-fits t c l last a lto (ok t c l last a lto full fine) is-1) (table-records t fits)) fits
 
-  module _ (fine : takeRefusal t c l last a lto ≡ 0) where
+  module _ (fine : takeRefusal t c l last a lto full ≡ 0) where
     abbrev freed : List (List ℕ)
     freed = map (freedIf (either (expired minute) match)) (records t)
 
     none-left : countIf match freed ≡ 0
     none-left = count-map match (λ r. match (freedIf (either (expired minute) match) r)) (freedIf (either (expired minute) match)) (records t) (λ r. refl)
-        ∙ count-none (λ r. match (freedIf (either (expired minute) match) r)) (records t) (second-gone (expired minute) match (matches-never t c l last a lto))
+        ∙ count-none (λ r. match (freedIf (either (expired minute) match) r)) (records t) (second-gone (expired minute) match (matches-never t c l last a lto full))
 
     -- after a cancelling message no record is left of its service, location and direction that shares a class with it
     pub cancelled : kind ≡ 2 → countIf match (records after) ≡ 0
     unfolding takenTable
     cancelled is-2 =
         let off : eqb kind 1 ≡ false = ne-eqb kind 1 (λ e. omega arith) in
-        ap (λ (u : List ℕ). countIf match (records u)) (sym (accepted-take t c l last a lto fine .1) ∙ passed-over _ _ _ off)
-        ∙ ap (countIf match) (records-both minute match (matches-never t c l last a lto) t (whole t c l last a lto fine))
+        ap (λ (u : List ℕ). countIf match (records u)) (sym (accepted-take t c l last a lto full fine .1) ∙ passed-over _ _ _ off)
+        ∙ ap (countIf match) (records-both minute match (matches-never t c l last a lto full) t (whole t c l last a lto full fine))
         ∙ none-left
 
     module _ (is-1 : kind ≡ 1) where
@@ -133,18 +134,18 @@ module _ (t c l : List ℕ) (last : ℕ) (a : Arrival) (lto : ℤ) where
       place = placeIn minute match t
 
       room : place < length freed
-      room = omega (arith, length-map (records t) (freedIf (either (expired minute) match)), length-records t, inside t c l last a lto fine is-1)
+      room = omega (arith, length-map (records t) (freedIf (either (expired minute) match)), length-records t, inside t c l last a lto full fine)
 
       -- what its record is made of
       can : canMake (a .report) (a .service) (setFor c (a .report)) (expiryFor c l a lto) ≡ true
-      can = can-make t c l last a lto (ok t c l last a lto fine) is-1
+      can = can-make t c l last a lto (ok t c l last a lto full fine) is-1
 
       stored-records : records after ≡ set freed place (recordFor c l a lto)
       unfolding takenTable afterStoring
       stored-records =
-          ap records (sym (accepted-take t c l last a lto fine .1) ∙ chosen _ _ _ (eq-eqb kind 1 is-1))
-          ∙ records-stored (afterMatching minute match t) (recordFor c l a lto) place (both-whole t c l last a lto fine) (both-inside t c l last a lto fine is-1) (made-sized t c l last a lto)
-          ∙ ap (λ (rs : List (List ℕ)). set rs place (recordFor c l a lto)) (records-both minute match (matches-never t c l last a lto) t (whole t c l last a lto fine))
+          ap records (sym (accepted-take t c l last a lto full fine .1) ∙ chosen _ _ _ (eq-eqb kind 1 is-1))
+          ∙ records-stored (afterMatching minute match t) (recordFor c l a lto) place (both-whole t c l last a lto full fine) (both-inside t c l last a lto full fine) (made-sized t c l last a lto full)
+          ∙ ap (λ (rs : List (List ℕ)). set rs place (recordFor c l a lto)) (records-both minute match (matches-never t c l last a lto full) t (whole t c l last a lto full fine))
 
       -- the report of an ordinary event is stored, and every other record is free if it has expired or matches and else is as it was
       pub stored-there : recordNo after place ≡ recordFor c l a lto
@@ -171,7 +172,7 @@ module _ (t c l : List ℕ) (last : ℕ) (a : Arrival) (lto : ℤ) where
       unfolding matches num
       only-record =
           let own : match (recordFor c l a lto) ≡ true = ap₂ (λ (x y : Bool). (x || eqb kind 2) && y) (eq-eqb kind 1 is-1) own-matches in
-          let free : match (getD freed place freeRecord) ≡ false = ap match (each-record (either (expired minute) match) (records t) place) ∙ second-gone (expired minute) match (matches-never t c l last a lto) (recordNo t place) in
+          let free : match (getD freed place freeRecord) ≡ false = ap match (each-record (either (expired minute) match) (records t) place) ∙ second-gone (expired minute) match (matches-never t c l last a lto full) (recordNo t place) in
           let old : num (match (getD freed place freeRecord)) ≡ 0 = ap num free in
           let new : num (match (recordFor c l a lto)) ≡ 1 = ap num own in
           ap (countIf match) stored-records ∙ omega (arith, count-set match freed place (recordFor c l a lto) freeRecord room, none-left, old, new)
@@ -180,11 +181,11 @@ module _ (t c l : List ℕ) (last : ℕ) (a : Arrival) (lto : ℤ) where
       pub stored-reads : length (a .report .items .places) ≡ limit → recordAt after place ≡ record { answer = Read; report = normal (a .service) (a .report); service = a .service; expiry = record { 0 = expiryFor c l a lto } }
       unfolding recordAt
       stored-reads sized =
-          let within : leb (length after / recordSize) place ≡ false = lt-leb (length after / recordSize) place (subst (λ (n : ℕ). place < n / recordSize) (sym same-length) (inside t c l last a lto fine is-1)) in
-          chosen _ _ _ (take-keeps (lent-table t c l (ok t c l last a lto fine .lent)))
+          let within : leb (length after / recordSize) place ≡ false = lt-leb (length after / recordSize) place (subst (λ (n : ℕ). place < n / recordSize) (sym same-length) (inside t c l last a lto full fine)) in
+          chosen _ _ _ (take-keeps (lent-table t c l (ok t c l last a lto full fine .lent)))
           ∙ passed-over _ _ _ within
           ∙ ap readingIn stored-there
-          ∙ reading-back (a .report) (a .service) (setFor c (a .report)) (expiryFor c l a lto) sized (asked-report t c l last a lto (ok t c l last a lto fine .asked))
+          ∙ reading-back (a .report) (a .service) (setFor c (a .report)) (expiryFor c l a lto) sized (asked-report t c l last a lto (ok t c l last a lto full fine .asked))
 
 -- Expiry alone keeps a well-formed table well-formed, and every test that holds of its records and of a free one.
 module _ (t : List ℕ) (last minute : ℕ) where

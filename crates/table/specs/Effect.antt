@@ -1,4 +1,4 @@
--- Demand 2 of the table: what a call on it does (document 01, "The message table").
+-- Demand 2 of the table: what a call on it does (documents 01, "The message table", and 02, R-6).
 use Prim.Native.Nat.{ℕ, _≤_, _<_}
 use mathlib.Core.Path.{_≡_}
 use mathlib.Core.Bool.{Bool, true, false, not}
@@ -6,12 +6,19 @@ use mathlib.Core.List.{List, map}
 use lib.ListN.{length, set}
 use Rattle.record.specs.Layout.{isFree}
 use Rattle.record.specs.Gone.{expired, either, onlySecond, freedIf}
-use Rattle.lent.specs.Records.{records}
+use Rattle.lent.specs.Records.{records, allOf}
 use Rattle.table.specs.declared.Step.{Step}
-use Rattle.table.specs.declared.Answer.the-variants.{Freed, Stored, Refused}
-use Rattle.table.specs.Records.{countIf, firstOf}
+use Rattle.table.specs.declared.Answer.the-variants.{Freed, Stored, Dropped, Refused}
+use Rattle.table.specs.Records.{countIf, firstOf, soonest}
 use Rattle.table.specs.Steps.{step}
-use Rattle.table.specs.Calls.{Call, minuteOf, matchOf, storesOf, madeOf}
+use Rattle.table.specs.Calls.{Call, minuteOf, matchOf, storesOf, madeOf, dropsOf}
+
+-- the records that are used
+abbrev pub used : List ℕ → Bool
+used r = not (isFree r)
+
+abbrev pub usedIn : List ℕ → ℕ
+usedIn t = countIf used (records t)
 
 -- the records with exactly those freed that have expired or match
 abbrev pub freedBy : List ℕ → Call → List (List ℕ) → List (List ℕ)
@@ -36,10 +43,10 @@ pub data Effect (catalogue t : List ℕ) (last : ℕ) (call : Call) : Step → L
       → place ≡ firstOf isFree (freedBy catalogue call (records t)) → place < length (records t)
       → records after ≡ set (freedBy catalogue call (records t)) place (madeOf catalogue call)
       → Effect catalogue t last call (step (minuteOf call) (Stored (expiredBy call (records t)) (matchedBy catalogue call (records t)) place)) after
-
--- the records that are used
-abbrev pub used : List ℕ → Bool
-used r = not (isFree r)
-
-abbrev pub usedIn : List ℕ → ℕ
-usedIn t = countIf used (records t)
+  -- or, where all records are used, and none has expired and none matches: the one that ends soonest, the lowest-numbered on a tie, is dropped,
+  -- and the report's record is stored in its place; every other record is as it was
+  drops : {after : List ℕ} (place : ℕ) → storesOf catalogue call ≡ true → dropsOf call ≡ true → last ≤ minuteOf call
+      → allOf used (records t) ≡ true → expiredBy call (records t) ≡ 0 → matchedBy catalogue call (records t) ≡ 0
+      → place ≡ soonest (records t) → place < length (records t)
+      → records after ≡ set (records t) place (madeOf catalogue call)
+      → Effect catalogue t last call (step (minuteOf call) (Dropped place)) after

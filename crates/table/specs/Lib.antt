@@ -3,6 +3,7 @@ pub mod Steps
 pub mod Expire
 pub mod Read
 pub mod Take
+pub mod Keeping
 pub mod Answers
 pub mod Calls
 pub mod Effect

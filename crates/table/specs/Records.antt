@@ -1,13 +1,14 @@
--- The records of a table counted, searched and changed (document 01, "The message table").
+-- The records of a table counted, searched and changed (documents 01, "The message table", and 02, R-6).
 use Prim.Native.Nat.{ℕ, suc, _+_}
 use mathlib.Core.Bool.{Bool, cond}
 use mathlib.Core.List.{List, [], _∷_, map}
 use lib.ListN.{set}
+use lib.Dec.{leb}
 use Rattle.bits.specs.Bits.{num}
 use Rattle.bits.specs.Lists.{joined}
-use Rattle.record.specs.Layout.{isFree}
+use Rattle.record.specs.Layout.{isFree, expiryIn}
 use Rattle.record.specs.Gone.{freedIf}
-use Rattle.lent.specs.Records.{records}
+use Rattle.lent.specs.Records.{records, allOf}
 
 -- how many a test holds of
 unfoldable pub countIf : (List ℕ → Bool) → List (List ℕ) → ℕ
@@ -33,6 +34,10 @@ countWhere p t = countIf p (records t)
 -- the lowest-numbered free record
 unfoldable pub lowestFree : List ℕ → ℕ
 lowestFree t = firstOf isFree (records t)
+
+-- the record that ends soonest, the lowest-numbered on a tie: the first one whose expiry is at most that of each
+unfoldable pub soonest : List (List ℕ) → ℕ
+soonest rs = firstOf (λ r. allOf (λ x. leb (expiryIn r) (expiryIn x)) rs) rs
 
 -- the table with a record stored in a place
 unfoldable pub stored : List ℕ → ℕ → List ℕ → List ℕ

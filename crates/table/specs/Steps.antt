@@ -1,15 +1,16 @@
--- The three steps of a call on the table (document 01, "The message table"; ISO 14819-1, clauses 6.4 and 6.5). Step 2 is for any test of
+-- The three steps of a call on the table (documents 01, "The message table", and 02, R-6; ISO 14819-1, clauses 6.4 and 6.5). Step 2 is for any test of
 -- what matches: for a call that matches nothing, it never holds.
 use Prim.Native.Nat.{ℕ, _/_}
-use mathlib.Core.Bool.{Bool}
+use mathlib.Core.Bool.{Bool, cond}
 use mathlib.Core.List.{List}
 use lib.ListN.{length}
 use lib.Dec.{leb}
 use Rattle.record.specs.Layout.{recordSize}
 use Rattle.record.specs.Gone.{expired}
+use Rattle.lent.specs.Records.{records}
 use Rattle.table.specs.declared.Step.{Step}
 use Rattle.table.specs.declared.Answer.{Answer}
-use Rattle.table.specs.Records.{freeWhere, countWhere, lowestFree, stored}
+use Rattle.table.specs.Records.{freeWhere, countWhere, lowestFree, soonest, stored}
 
 -- the state after a call, and its answer
 abbrev pub step : ℕ → Answer → Step
@@ -29,12 +30,16 @@ afterMatching minute match t = freeWhere match (afterExpiry minute t)
 unfoldable pub matchedIn : ℕ → (List ℕ → Bool) → List ℕ → ℕ
 matchedIn minute match t = countWhere match (afterExpiry minute t)
 
--- step 3: the place for a report is the lowest-numbered record that is free then; where there is none, there is no room
-unfoldable pub placeIn : ℕ → (List ℕ → Bool) → List ℕ → ℕ
-placeIn minute match t = lowestFree (afterMatching minute match t)
+-- step 3: where no record is free then, there is no room
+unfoldable pub freeIn : ℕ → (List ℕ → Bool) → List ℕ → ℕ
+freeIn minute match t = lowestFree (afterMatching minute match t)
 
 abbrev pub noRoom : ℕ → (List ℕ → Bool) → List ℕ → Bool
-noRoom minute match t = leb (length t / recordSize) (placeIn minute match t)
+noRoom minute match t = leb (length t / recordSize) (freeIn minute match t)
+
+-- the place for a report is the lowest-numbered free record; where there is no room, that of the record that ends soonest, which is dropped
+unfoldable pub placeIn : ℕ → (List ℕ → Bool) → List ℕ → ℕ
+placeIn minute match t = cond (noRoom minute match t) (soonest (records (afterMatching minute match t))) (freeIn minute match t)
 
 unfoldable pub afterStoring : ℕ → (List ℕ → Bool) → List ℕ → List ℕ → List ℕ
 afterStoring minute match r t = stored (afterMatching minute match t) (placeIn minute match t) r

@@ -10,7 +10,15 @@ mod take;
 
 use clock::Utc;
 
-// How many records a call freed as expired and as matching, and where it stored the report; or the refusal's number.
+// What a take does where there is no room: it drops the record that ends soonest, which is the default, or keeps all and refuses the
+// report (14).
+pub enum WhenFull {
+    Drop,
+    Keep,
+}
+
+// How many records a call freed as expired and as matching, and where it stored the report; or where it dropped a record, none having
+// expired or matched, and stored the report; or the refusal's number.
 pub enum Answer {
     Freed {
         expired: usize,
@@ -19,6 +27,9 @@ pub enum Answer {
     Stored {
         expired: usize,
         matched: usize,
+        place: usize,
+    },
+    Dropped {
         place: usize,
     },
     Refused(u8),

@@ -1,22 +1,25 @@
 // A report is taken into the table.
 ghost use mathlib.Core.Path.{_≡_};
-ghost use mathlib.Core.Bool.{true, cond};
+ghost use mathlib.Core.Bool.{true, cond, _&&_};
 ghost use Prim.Native.Nat.{_/_, _%_, _<_};
 ghost use lib.ListN.{length};
 ghost use Rattle.record.specs.Layout.{recordSize};
 ghost use Rattle.record.specs.Matching.{matching};
 ghost use Rattle.record_report.specs.Made.{recordOf, canMake};
+ghost use Rattle.lent.specs.Records.{records};
 ghost use Rattle.checks.specs.Checks.{checkRefusal};
-ghost use Rattle.table.specs.declared.Answer.the-variants.{Freed, Stored, Refused};
-ghost use Rattle.table.specs.Records.{stored};
-ghost use Rattle.table.specs.Steps.{step, expiredIn, afterMatching, matchedIn, placeIn, noRoom, afterStoring};
-ghost use Rattle.table.specs.Take.{takeStep, takeTable};
+ghost use Rattle.table.specs.declared.Answer.the-variants.{Freed, Dropped, Refused};
+ghost use Rattle.table.specs.Records.{soonest, stored};
+ghost use Rattle.table.specs.Steps.{step, expiredIn, afterMatching, matchedIn, noRoom, afterStoring};
+ghost use Rattle.table.specs.Take.{keeps, storingAnswer, takeStep, takeTable};
 use crate::Answer;
 use crate::Step;
 use crate::Table;
+use crate::WhenFull;
 use crate::expire::free_expired;
 use crate::refused;
 use crate::search::find_free;
+use crate::search::find_soonest;
 use crate::sweep::sweep_gone;
 use checks::Arrival;
 use checks::check;
@@ -34,9 +37,10 @@ use report::Report;
 
 impl Table {
     // Takes a report of a service at a minute with a local time offset: frees the expired records and, for an ordinary or a cancelling
-    // event, the matching ones, and stores the report of an ordinary event in the lowest-numbered free record. Refused, in this order: a
-    // malformed table, catalogue or lives (10), an unfit report, service or offset (9), a minute below the last one or too large (13), a
-    // location whose code is an FLT code (12), an unknown event (11), no room (14). A refusal changes nothing.
+    // event, the matching ones, and stores the report of an ordinary event in the lowest-numbered free record. Where none is free, the
+    // record that ends soonest is dropped for it, the lowest-numbered on a tie, or all are kept. Refused, in this order: a malformed table,
+    // catalogue or lives (10), an unfit report, service or offset (9), a minute below the last one or too large (13), a location whose code
+    // is an FLT code (12), an unknown event (11), no room where all records are kept (14). A refusal changes nothing.
     pub fn take(
         t: &mut [u8],
         catalogue: &[u16],
@@ -44,15 +48,16 @@ impl Table {
         last: Utc,
         arrival: Arrival,
         lto: i8,
+        full: WhenFull,
     ) -> Step
-        ensures { λ s. ⌜ s ≡ takeStep (now (t .entry)) (now (catalogue .entry)) (now (lives .entry)) (last .0) arrival lto ⌝ }
-        ensures { λ _. ⌜ now (t .exit) ≡ takeTable (now (t .entry)) (now (catalogue .entry)) (now (lives .entry)) (last .0) arrival lto ⌝ }
+        ensures { λ s. ⌜ s ≡ takeStep (now (t .entry)) (now (catalogue .entry)) (now (lives .entry)) (last .0) arrival lto full ⌝ }
+        ensures { λ _. ⌜ now (t .exit) ≡ takeTable (now (t .entry)) (now (catalogue .entry)) (now (lives .entry)) (last .0) arrival lto full ⌝ }
     {
         let refusal = check(t, catalogue, lives, last, arrival, lto);
         if refusal != 0 {
             return refused(last, refusal);
         }
-        take_checked(t, catalogue, lives, last, arrival, lto)
+        take_checked(t, catalogue, lives, last, arrival, lto, full)
     }
 }
 
@@ -64,10 +69,11 @@ fn take_checked(
     last: Utc,
     arrival: Arrival,
     lto: i8,
+    full: WhenFull,
 ) -> Step
     requires { ⌜ checkRefusal (now t) (now catalogue) (now lives) (last .0) arrival lto ≡ 0 ⌝ }
-    ensures { λ s. ⌜ s ≡ takeStep (now (t .entry)) (now (catalogue .entry)) (now (lives .entry)) (last .0) arrival lto ⌝ }
-    ensures { λ _. ⌜ now (t .exit) ≡ takeTable (now (t .entry)) (now (catalogue .entry)) (now (lives .entry)) (last .0) arrival lto ⌝ }
+    ensures { λ s. ⌜ s ≡ takeStep (now (t .entry)) (now (catalogue .entry)) (now (lives .entry)) (last .0) arrival lto full ⌝ }
+    ensures { λ _. ⌜ now (t .exit) ≡ takeTable (now (t .entry)) (now (catalogue .entry)) (now (lives .entry)) (last .0) arrival lto full ⌝ }
 {
     let report = arrival.report;
     let head = report.head;
@@ -92,7 +98,7 @@ fn take_checked(
     // The checks leave the clock nothing to refuse.
     let expiry = minute.expiry(lto, life);
     match expiry {
-        Expiry::At(end) => take_ordinary(t, last, minute, report, key, end),
+        Expiry::At(end) => take_ordinary(t, last, minute, report, key, end, full),
         Expiry::Refused(n) => refused(last, n),
     }
 }
@@ -113,7 +119,7 @@ fn take_cancelling(t: &mut [u8], minute: Utc, key: Key) -> Step
     }
 }
 
-// An ordinary message is stored, if steps 1 and 2 leave a record free; else they freed none, and it is refused (14).
+// An ordinary message is stored, if steps 1 and 2 leave a record free; else they freed none.
 fn take_ordinary(
     t: &mut [u8],
     last: Utc,
@@ -121,18 +127,19 @@ fn take_ordinary(
     report: Report,
     key: Key,
     expiry: Utc,
+    full: WhenFull,
 ) -> Step
-    requires { ⌜ (length (now t) % recordSize ≡ 0) × (canMake report (key .service) (key .classes .0) (expiry .0) ≡ true) ⌝ }
-    ensures { λ s. ⌜ s ≡ cond (noRoom (minute .0) (matching key) (now (t .entry))) (step (last .0) (Refused 14)) (step (minute .0) (Stored (expiredIn (minute .0) (now (t .entry))) (matchedIn (minute .0) (matching key) (now (t .entry))) (placeIn (minute .0) (matching key) (now (t .entry))))) ⌝ }
-    ensures { λ _. ⌜ now (t .exit) ≡ cond (noRoom (minute .0) (matching key) (now (t .entry))) (now (t .entry)) (afterStoring (minute .0) (matching key) (recordOf report (key .service) (key .classes .0) (expiry .0)) (now (t .entry))) ⌝ }
+    requires { ⌜ (length (now t) % recordSize ≡ 0) × (0 < length (now t) / recordSize) × (canMake report (key .service) (key .classes .0) (expiry .0) ≡ true) ⌝ }
+    ensures { λ s. ⌜ s ≡ cond (noRoom (minute .0) (matching key) (now (t .entry)) && keeps full) (step (last .0) (Refused 14)) (step (minute .0) (storingAnswer (minute .0) (matching key) (now (t .entry)))) ⌝ }
+    ensures { λ _. ⌜ now (t .exit) ≡ cond (noRoom (minute .0) (matching key) (now (t .entry)) && keeps full) (now (t .entry)) (afterStoring (minute .0) (matching key) (recordOf report (key .service) (key .classes .0) (expiry .0)) (now (t .entry))) ⌝ }
 {
     let gone = sweep_gone(t, minute, key);
-    let place = find_free(t);
-    if t.len() / Record::SIZE <= place {
-        return refused(last, 14);
-    }
     let service = key.service;
     let classes = key.classes;
+    let place = find_free(t);
+    if t.len() / Record::SIZE <= place {
+        return take_full(t, last, minute, report, service, classes, expiry, full);
+    }
     put_at(t, place, report, service, classes, expiry);
     Step {
         last: minute,
@@ -141,6 +148,34 @@ fn take_ordinary(
             matched: gone.matched,
             place,
         },
+    }
+}
+
+// An ordinary message where no record is free: stored in the place of the one that ends soonest, or refused (14).
+fn take_full(
+    t: &mut [u8],
+    last: Utc,
+    minute: Utc,
+    report: Report,
+    service: Service,
+    classes: Classes,
+    expiry: Utc,
+    full: WhenFull,
+) -> Step
+    requires { ⌜ (length (now t) % recordSize ≡ 0) × (0 < length (now t) / recordSize) × (canMake report service (classes .0) (expiry .0) ≡ true) ⌝ }
+    ensures { λ s. ⌜ s ≡ cond (keeps full) (step (last .0) (Refused 14)) (step (minute .0) (Dropped (soonest (records (now (t .entry)))))) ⌝ }
+    ensures { λ _. ⌜ now (t .exit) ≡ cond (keeps full) (now (t .entry)) (stored (now (t .entry)) (soonest (records (now (t .entry)))) (recordOf report service (classes .0) (expiry .0))) ⌝ }
+{
+    match full {
+        WhenFull::Keep => refused(last, 14),
+        WhenFull::Drop => {
+            let soonest = find_soonest(t);
+            put_at(t, soonest, report, service, classes, expiry);
+            Step {
+                last: minute,
+                answer: Answer::Dropped { place: soonest },
+            }
+        }
     }
 }
 

@@ -2,7 +2,7 @@
 use Prim.Native.Nat.{ℕ, _+_, _*_}
 use native.Mathlib.Omega.{arith}
 use mathlib.Core.Path.{_≡_, sym, ap, ap₂, _∙_}
-use mathlib.Core.Bool.{cond}
+use mathlib.Core.Bool.{cond, _&&_}
 use mathlib.Core.List.{List}
 use lib.IntN.{ℤ}
 use lib.ListN.{getD}
@@ -19,14 +19,15 @@ use Rattle.record.specs.Locations.{locationOf}
 use Rattle.record.specs.Matching.{matching}
 use Rattle.record_report.specs.Made.{recordOf, canMake}
 use Rattle.lent.specs.Catalogue.{kindOf, typeOf}
-use Rattle.lent.proofs.Lents.{lent-whole}
+use Rattle.lent.proofs.Lents.{table-some, lent-table, lent-whole}
 use Rattle.classes.specs.Classes.{setFor}
 use Rattle.classes.specs.Keys.{keyOf}
 use Rattle.checks.specs.declared.Arrival.{Arrival}
 use Rattle.checks.specs.Events.{entryFor, kindFor, expiryFor}
 use Rattle.checks.proofs.Checked.{Checked, checked, life-inside, expiry-is, kinds}
-use Rattle.table.specs.declared.Answer.the-variants.{Freed, Stored, Refused}
-use Rattle.table.specs.Steps.{step, expiredIn, afterMatching, matchedIn, placeIn, noRoom, afterStoring}
+use Rattle.table.specs.declared.Answer.the-variants.{Freed, Refused}
+use Rattle.table.specs.Steps.{step, expiredIn, afterMatching, matchedIn, noRoom, afterStoring}
+use Rattle.table.specs.Take.{keeps, storingAnswer}
 use Rattle.table.proofs.Storable.{can-make}
 use Rattle.table.proofs.Takes.{null-way, cancelling-way, ordinary-way}
 use borrow.Author.Needs.{needs}
@@ -50,7 +51,7 @@ returns c =
     let s = at .before .before .before .before .before .before .before .before in
     let a = s .args in
     let is-3 = sym (at .kind .ensures ∙ ap kindOf (at .before .of-event .ensures)) ∙ c .before .before .before .before .if1 .taken in
-    let way = null-way (a .t .now) (a .catalogue .now) (a .lives .now) (a .last .0) (a .arrival) (a .lto) (s .pre) (lent-whole (a .t .now) (a .catalogue .now) (a .lives .now) (checked (a .t .now) (a .catalogue .now) (a .lives .now) (a .last .0) (a .arrival) (a .lto) (s .pre) .lent)) is-3 in
+    let way = null-way (a .t .now) (a .catalogue .now) (a .lives .now) (a .last .0) (a .arrival) (a .lto) (a .full) (s .pre) (lent-whole (a .t .now) (a .catalogue .now) (a .lives .now) (checked (a .t .now) (a .catalogue .now) (a .lives .now) (a .last .0) (a .arrival) (a .lto) (s .pre) .lent)) is-3 in
     let f = c .before .before .free-expired .ensures in
     (f .0 ∙ way .0, f .1 ∙ way .1)
 
@@ -71,7 +72,7 @@ returns-2 c =
     let v = a .arrival in
     let m = v .minute .0 in
     let is-2 = sym (at .kind .ensures ∙ ap kindOf (at .before .of-event .ensures)) ∙ at-if .if2 .taken in
-    let way = cancelling-way t k (a .lives .now) (a .last .0) v (a .lto) (s .pre) (lent-whole (a .t .now) (a .catalogue .now) (a .lives .now) (checked (a .t .now) (a .catalogue .now) (a .lives .now) (a .last .0) (a .arrival) (a .lto) (s .pre) .lent)) is-2 in
+    let way = cancelling-way t k (a .lives .now) (a .last .0) v (a .lto) (a .full) (s .pre) (lent-whole (a .t .now) (a .catalogue .now) (a .lives .now) (checked (a .t .now) (a .catalogue .now) (a .lives .now) (a .last .0) (a .arrival) (a .lto) (s .pre) .lent)) is-2 in
     let f = c .before .before .take-cancelling .ensures in
     let key = same-key k v _ _ (at-if .before .before .location-of .ensures) (at-if .before .of-report .ensures) in (
       f .0 ∙ ap (λ (x : Key). step m (Freed (expiredIn m t) (matchedIn m (matching x) t))) key ∙ way .0,
@@ -116,7 +117,7 @@ take-ordinary-requires c κs =
     let is-1 = is-ordinary t k l (a .last .0) v (a .lto) _ ok (at-type .before .before .before .before .before .before .kind .ensures ∙ ap kindOf entry) (at-type .before .before .before .before .before .if1 .left) (at-type .before .if2 .left) in
     let told = clock-told t k l (a .last .0) v (a .lto) _ _ _ ok (toZ-ofZ w8 (a .lto) (s .fits .lto)) (at-type .duration-type .ensures ∙ ap typeOf entry) (at-clock .expiry .ensures) in
     let end = ap minuteOf (sym (c .before .before .expiry2 .given .1) ∙ told) in
-    (lent-whole t k l (ok .lent), ap₂ (canMake (v .report) (v .service)) (at-type .before .before .of-report .ensures) end ∙ can-make t k l (a .last .0) v (a .lto) ok is-1)
+    (lent-whole t k l (ok .lent), table-some t (lent-table t k l (ok .lent)), ap₂ (canMake (v .report) (v .service)) (at-type .before .before .of-report .ensures) end ∙ can-make t k l (a .last .0) v (a .lto) ok is-1)
 
 returns-3 : tie.Need-returns-3
 returns-3 c =
@@ -135,12 +136,12 @@ returns-3 c =
     let is-1 = is-ordinary t k l (a .last .0) v (a .lto) _ ok (at-type .before .before .before .before .before .before .kind .ensures ∙ ap kindOf entry) (at-type .before .before .before .before .before .if1 .left) (at-type .before .if2 .left) in
     let told = clock-told t k l (a .last .0) v (a .lto) _ _ _ ok (toZ-ofZ w8 (a .lto) (s .fits .lto)) (at-type .duration-type .ensures ∙ ap typeOf entry) (at-clock .expiry .ensures) in
     let end = ap minuteOf (sym (c .before .before .before .before .before .expiry2 .given .1) ∙ told) in
-    let way = ordinary-way t k l (a .last .0) v (a .lto) (s .pre) (lent-whole t k l (ok .lent)) is-1 in
+    let way = ordinary-way t k l (a .last .0) v (a .lto) (a .full) (s .pre) (lent-whole t k l (ok .lent)) is-1 in
     let f = c .before .before .take-ordinary .ensures in
     let key = same-key k v _ _ (at-type .before .before .before .location-of .ensures) (at-type .before .before .of-report .ensures) in
     let made = ap₂ (recordOf (v .report) (v .service)) (at-type .before .before .of-report .ensures) end in (
-      f .0 ∙ ap (λ (x : Key). cond (noRoom m (matching x) t) (step (a .last .0) (Refused 14)) (step m (Stored (expiredIn m t) (matchedIn m (matching x) t) (placeIn m (matching x) t)))) key ∙ way .0,
-      f .1 ∙ ap₂ (λ (x : Key) (r : List ℕ). cond (noRoom m (matching x) t) t (afterStoring m (matching x) r t)) key made ∙ way .1,
+      f .0 ∙ ap (λ (x : Key). cond (noRoom m (matching x) t && keeps (a .full)) (step (a .last .0) (Refused 14)) (step m (storingAnswer m (matching x) t))) key ∙ way .0,
+      f .1 ∙ ap₂ (λ (x : Key) (r : List ℕ). cond (noRoom m (matching x) t && keeps (a .full)) t (afterStoring m (matching x) r t)) key made ∙ way .1,
     )
 
 returns-4 : tie.Need-returns-4
