@@ -27,7 +27,7 @@ use Rattle.table.specs.Records.{soonest}
 use Rattle.table.specs.Steps.{afterMatching, freeIn, noRoom, placeIn, afterStoring}
 use Rattle.table.specs.Take.{matches, matchesOf, recordFor, keeps, takeRefusal, takenTable, takeTable}
 use Rattle.table.proofs.Counts.{clash}
-use Rattle.table.proofs.Soonest.{soonest-inside}
+use Rattle.table.proofs.Soonest.{soonest-ends}
 use Rattle.table.proofs.Freeing.{length-both, whole-both}
 use Rattle.table.proofs.Takes.{refused-take, accepted-take}
 
@@ -117,7 +117,7 @@ module _ (t c l : List ℕ) (last : ℕ) (a : Arrival) (lto : ℤ) (full : WhenF
         same = length-both minute (matchesOf c a) matches-never t whole
 
         by-room : (b : Bool) → noRoom minute (matchesOf c a) t ≡ b → cond b (soonest (records after)) (freeIn minute (matchesOf c a) t) < length t / recordSize
-        by-room true e = subst (λ (n : ℕ). soonest (records after) < n / recordSize) same (soonest-inside after (subst (λ (n : ℕ). 0 < n / recordSize) (sym same) (table-some t (lent-table t c l (ok .lent)))))
+        by-room true e = subst (λ (n : ℕ). soonest (records after) < n / recordSize) same (soonest-ends after (subst (λ (n : ℕ). 0 < n / recordSize) (sym same) (table-some t (lent-table t c l (ok .lent)))) .0)
         by-room false e = leb-false (length t / recordSize) (freeIn minute (matchesOf c a) t) e
 
     pub both-whole : length (afterMatching minute (matchesOf c a) t) % recordSize ≡ 0

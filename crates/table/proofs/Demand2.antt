@@ -11,7 +11,7 @@ use lib.Dec.{eqb}
 use borrow.Author.Tests.{eqb-true, eqb-false, leb-true}
 use Rattle.bits.specs.Bits.{num}
 use Rattle.bits.proofs.Choice.{chosen, passed-over}
-use Rattle.record.specs.Layout.{recordSize, freeRecord, isFree}
+use Rattle.record.specs.Layout.{recordSize, freeRecord, isFree, expiryIn}
 use Rattle.record.specs.Gone.{expired, either, onlySecond, freedIf}
 use Rattle.lent.specs.Records.{records, allOf}
 use Rattle.lent.specs.Table.{tableFits}
@@ -33,6 +33,7 @@ use Rattle.table.specs.Calls.{Call, taking, expiring, stepOf, tableAfter
 use Rattle.table.specs.Effect.{Effect, refuses, frees, stores, drops, used, usedIn, freedBy, expiredBy, matchedBy}
 use Rattle.table.proofs.Counts.{count-either, count-set, first-holds}
 use Rattle.table.proofs.Sweeps.{length-records}
+use Rattle.table.proofs.Soonest.{soonest-ends}
 use Rattle.table.proofs.Storing.{records-stored}
 use Rattle.table.proofs.Freeing.{matched-counted, records-both, free-is, as-they-were, none-gone, none-expired, none-matched, all-used, nothing-matched, nothing-changed}
 use Rattle.table.proofs.Takes.{refused-take, accepted-take, refused-expiry, expiry-by, accepted-expiry}
@@ -217,7 +218,7 @@ module _ (c t : List ℕ) (last : ℕ) (call : Call) where
           let old : num (used (getD (records t) place freeRecord)) ≡ 1 = ap num (all-at used (records t) place freeRecord full room) in
           omega (arith, ap (countIf used) e, count-set used (records t) place (madeOf c call) freeRecord room, old, made-one call one)
 
-  -- where a record is dropped, the call may drop one, all are used, none has expired and none matches
+  -- a record is dropped only if the call may drop one, all are used, none has expired and none matches
   pub dropped-full : (place : ℕ) → stepOf c t last call .answer ≡ Dropped place → (dropsOf call ≡ true) × (allOf used (records t) ≡ true) × (expiredBy call (records t) ≡ 0) × (matchedBy c call (records t) ≡ 0)
   dropped-full = by-effect (demand2 c t last call)
     where
@@ -226,3 +227,23 @@ module _ (c t : List ℕ) (last : ℕ) (call : Call) where
       by-effect (frees none later e) n r = absurd (let z : _≡_ {A = ℕ} 0 1 = cc in omega arith)
       by-effect (stores place one later found room e) n r = absurd (let z : _≡_ {A = ℕ} 0 1 = cc in omega arith)
       by-effect (drops place one may later full expired matched found room e) n r = (may, full, expired, matched)
+
+  -- it ends no later than any other one, and sooner than each one before it
+  abbrev end : ℕ → ℕ
+  end i = expiryIn (getD (records t) i freeRecord)
+
+  abbrev Soonest : ℕ → Type 0
+  Soonest place = (i : ℕ) → i < length (records t) → (end place ≤ end i) × (i < place → end place < end i)
+
+  pub dropped-soonest : (place : ℕ) → stepOf c t last call .answer ≡ Dropped place → Soonest place
+  dropped-soonest = by-effect (demand2 c t last call)
+    where
+      same : (x y : ℕ) → Dropped x ≡ Dropped y → x ≡ y
+      same x y e = cc
+
+      by-effect : {s : Step} {u : List ℕ} → Effect c t last call s u → (place : ℕ) → s .answer ≡ Dropped place → Soonest place
+      by-effect (refuses k) n r = absurd (let z : _≡_ {A = ℕ} 0 1 = cc in omega arith)
+      by-effect (frees none later e) n r = absurd (let z : _≡_ {A = ℕ} 0 1 = cc in omega arith)
+      by-effect (stores place one later found room e) n r = absurd (let z : _≡_ {A = ℕ} 0 1 = cc in omega arith)
+      by-effect (drops place one may later full expired matched found room e) n r =
+          subst Soonest (sym found ∙ same place n r) (λ i h. soonest-ends t (omega (arith, room, length-records t)) .1 i (omega (arith, h, length-records t)))

@@ -98,16 +98,26 @@ some-least P (suc i) t told = some-least P i t (λ place m least. by-end place m
     by-end place m least true e = told place m (later-next t i least (leb-true m (expiryIn (nth t (suc i))) e))
     by-end place m least false e = told (suc i) (expiryIn (nth t (suc i))) (sooner-next t i least (leb-false m (expiryIn (nth t (suc i))) e))
 
--- of a table with a record at least
-pub soonest-inside : (t : List ℕ) → 0 < length t / recordSize → soonest (records t) < length t / recordSize
-unfolding records
-soonest-inside t h = some-least (soonest (records t) < length t / recordSize) (length t / recordSize - 1) t inside
-  where
-    all : chunks (suc (length t / recordSize - 1)) t ≡ records t
-    all = let e : suc (length t / recordSize - 1) ≡ length t / recordSize = omega arith in ap (λ (n : ℕ). chunks n t) e
+-- of a table with a record at least: it is within the table, none ends sooner, and each one before it ends later
+module _ (t : List ℕ) (some : 0 < length t / recordSize) where
+  abbrev ending : ℕ → ℕ
+  ending i = expiryIn (getD (records t) i freeRecord)
 
-    inside : (place m : ℕ) → Least (chunks (suc (length t / recordSize - 1)) t) place m → soonest (records t) < length t / recordSize
-    inside place m least = omega (arith, sym (ap soonest all) ∙ soonest-is least, least .inside, length-chunks (suc (length t / recordSize - 1)) t)
+  abbrev Soonest : ℕ → Type 0
+  Soonest place = (place < length t / recordSize) × ((i : ℕ) → i < length t / recordSize → (ending place ≤ ending i) × (i < place → ending place < ending i))
+
+  pub soonest-ends : Soonest (soonest (records t))
+  unfolding records
+  soonest-ends = some-least (Soonest (soonest (records t))) (length t / recordSize - 1) t found
+    where
+      all : suc (length t / recordSize - 1) ≡ length t / recordSize
+      all = omega arith
+
+      found : (place m : ℕ) → Least (chunks (suc (length t / recordSize - 1)) t) place m → Soonest (soonest (records t))
+      found place m one =
+          let least : Least (records t) place m = subst (λ (n : ℕ). Least (chunks n t) place m) all one in
+          let long = length-chunks (length t / recordSize) t in
+          subst Soonest (sym (soonest-is least)) (omega (arith, least .inside, long), λ i h. (none-sooner least i (omega (arith, h, long)), later-before least i))
 
 -- what a search has found after i records: nothing yet, with the largest number of 32 bits, or the one that ends soonest
 abbrev pub Sought : List ℕ → (i place m : ℕ) → Type 0

@@ -2,6 +2,7 @@
 ghost use mathlib.Core.Path.{_≡_};
 ghost use Rattle.table.specs.declared.Answer.the-variants.{Refused};
 
+mod drop;
 mod expire;
 mod read;
 mod search;

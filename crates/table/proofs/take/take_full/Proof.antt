@@ -10,7 +10,7 @@ use Rattle.table.specs.declared.Answer.the-variants.{Dropped}
 use Rattle.table.specs.Records.{stored}
 use Rattle.table.specs.Steps.{step}
 use Rattle.table.specs.Take.{keeps}
-use Rattle.table.proofs.Soonest.{soonest-inside}
+use Rattle.table.proofs.Soonest.{soonest-ends}
 use borrow.Author.Needs.{needs}
 use Rattle.table.proofs.take.take_full.Statement.{statement}
 use Rattle.table.proofs.take.take_full.Tie as tie
@@ -19,7 +19,7 @@ put-at-requires : tie.Need-put-at-requires
 put-at-requires c κs =
     let s = c .before .before .before .before .before .before in
     let t = s .args .t .now in
-    (s .pre .0, subst (λ (n : ℕ). n < length t / recordSize) (sym (c .before .find-soonest .ensures)) (soonest-inside t (s .pre .1)), s .pre .2)
+    (s .pre .0, subst (λ (n : ℕ). n < length t / recordSize) (sym (c .before .find-soonest .ensures)) (soonest-ends t (s .pre .1) .0), s .pre .2)
 
 returns : tie.Need-returns
 returns c =

@@ -85,7 +85,7 @@ put-at-requires c κs =
     let s = pass .before .before .before in
     let a = s .args in (
       ap (λ (u : List ℕ). length u % recordSize) (pass .sweep-gone .ensures .1) ∙ whole-both (a .minute .0) (matching (a .key)) (never-free (a .key)) (a .t .now) (s .pre .0),
-      c .before .if1 .left,
+      omega (arith, c .before .if1 .left),
       s .pre .2,
     )
 

@@ -11,8 +11,8 @@ use Rattle.lent.proofs.Passes.{nth, part-is, length-part}
 use Rattle.table.specs.Records.{soonest}
 use Rattle.table.proofs.Soonest.{Sought, sought-sooner, sought-later, sought-all}
 use borrow.Author.Needs.{needs}
-use Rattle.table.proofs.search.find_soonest.Statement.{statement}
-use Rattle.table.proofs.search.find_soonest.Tie as tie
+use Rattle.table.proofs.drop.find_soonest.Statement.{statement}
+use Rattle.table.proofs.drop.find_soonest.Tie as tie
 
 abbrev Inv-loop : tie.InvT-loop
 Inv-loop t n place₀ least₀ i₀ place least i = (i ≤ n) × Sought t i place least
