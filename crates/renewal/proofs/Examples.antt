@@ -17,7 +17,6 @@ use Rattle.record.specs.declared.Service.{Service}
 use Rattle.record.specs.Locations.{headLocation, realLocation}
 use Rattle.record.specs.Layout.{freeRecord, fourBytes, eightBytes, withSet}
 use Rattle.record.specs.Gone.{oneRecord}
-use Rattle.record.specs.WellFormed as form
 use Rattle.record_report.specs.declared.Answer.the-variants as reading
 use Rattle.record_report.specs.Made.{recordOf}
 use Rattle.record_report.specs.Reads.{messageIn, messageOf, nothing, answered, readingIn}
@@ -33,6 +32,11 @@ use Rattle.table.proofs.Examples.{computing}
 use Rattle.renewal.specs.declared.Answer.the-variants as renewal
 use Rattle.renewal.specs.Classes.{classesIn, classed}
 use Rattle.renewal.specs.Renewal.{renewed, renewFits, renewAnswer, renewTable}
+
+-- names what the cases compute with
+unfoldable renewing : Unit {0}
+unfolding computing widths width valued labelled first andThen readBy itemsWithin items content itemFits readItems headLocation realLocation withSet oneRecord messageIn messageOf nothing answered readingIn recordAt classesIn classed renewed renewFits renewAnswer renewTable
+renewing = tt
 
 abbrev catalogue : List ℕ
 catalogue = set (set (set (set (replicate 2048 0) 201 0x45) 641 0x49) 2028 0x89) 2047 0xC0
@@ -85,7 +89,7 @@ pub additional-events :
     × (renewAnswer (unreadable 160) catalogue ≡ renewal.Refused 10)
     × (renewAnswer (kept (single 300) 0x20 160) catalogue ≡ renewal.Refused 10)
     × (recordAt (unreadable 160) 0 ≡ nothing (reading.Refused 7))
-unfolding computing widths width valued labelled first andThen readBy itemsWithin items content itemFits readItems headLocation realLocation withSet oneRecord messageIn messageOf nothing answered readingIn recordAt classesIn classed renewed renewFits renewAnswer renewTable
+unfolding renewing
 additional-events = (refl, refl, refl, refl, refl, refl, refl, refl, refl, refl)
 
 -- what an all-free table of one record keeps of a report that arrives at minute 100, by a catalogue
@@ -117,5 +121,5 @@ pub stored-sets :
     × (expiring (bytes201 (replicate 8 0)) ≡ step 0 (Refused 10))
     × (expiring (bytes201 (0x21 ∷ 0x02 ∷ replicate 6 0)) ≡ step 0 (Refused 10))
     × (expiring (set (bytes201 (0x20 ∷ 0x02 ∷ replicate 6 0)) 30 9) ≡ step 0 (Refused 10))
-unfolding computing widths width valued labelled first andThen readBy itemsWithin items content itemFits readItems headLocation realLocation withSet oneRecord messageIn messageOf nothing answered readingIn recordAt classesIn classed renewed renewFits renewAnswer renewTable
+unfolding renewing
 stored-sets = (refl, refl, refl, refl, refl, refl, refl, refl, refl, refl, refl)

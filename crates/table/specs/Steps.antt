@@ -1,5 +1,5 @@
--- The three steps of a call on the table (documents 01, "The message table", and 02, R-6; ISO 14819-1, clauses 6.4 and 6.5). Step 2 is for any test of
--- what matches: for a call that matches nothing, it never holds.
+-- The three steps of a call on the table (documents 01, "The message table", and 02, R-6; ISO 14819-1, clauses 6.4 and 6.5). Step 2 is for
+-- any test of what matches: for a call that matches nothing, it never holds.
 use Prim.Native.Nat.{ℕ, _/_}
 use mathlib.Core.Bool.{Bool, cond}
 use mathlib.Core.List.{List}
