@@ -1,12 +1,16 @@
 -- A number that is no choice, or a take.
-use mathlib.Core.Path.{sym, ap, ap₂, _∙_}
-use mathlib.Core.Bool.{Bool}
+use Prim.Native.Nat.{ℕ, _<_}
+use mathlib.Core.Path.{_≡_, sym, ap, ap₂, _∙_}
+use mathlib.Core.Bool.{Bool, true, false}
+use mathlib.Core.List.{List}
 use lib.IntN.{ℤ}
 use mir.Syntax.{w8}
 use mir.ValLaws.{toZ-ofZ}
 use borrow.Author.Tests.{le-leb, lt-leb}
 use Rattle.bits.specs.Checks.{must}
 use Rattle.bits.proofs.Choice.{chosen, passed-over}
+use Rattle.lent.specs.Lent.{lentFit}
+use Rattle.checks.specs.declared.Arrival.{Arrival}
 use Rattle.table.specs.declared.WhenFull.{WhenFull}
 use Rattle.table.specs.declared.Answer.the-variants.{Refused}
 use Rattle.table.specs.Steps.{step}
@@ -16,21 +20,23 @@ use borrow.Author.Needs.{needs}
 use Rattle.c_answers.proofs.tables.take.Statement.{statement}
 use Rattle.c_answers.proofs.tables.take.Tie as tie
 
-returns : tie.Need-returns
+-- a number that is no choice, by whether what is lent fits
+no-choice : (t c l : List ℕ) (last : ℕ) (a : Arrival) (lto : ℤ) (number : ℕ) (fits : Bool) → 1 < number → lentFit t c l ≡ fits
+    → (step last (Refused (must fits 10 9)) ≡ chosenStep t c l last a lto number) × (t ≡ chosenTable t c l last a lto number)
 unfolding chosenStep chosenTable
+no-choice t c l last a lto number fits h e =
+    let off = lt-leb number 1 h in
+    (sym (passed-over _ _ _ off ∙ ap (λ (b : Bool). step last (Refused (must b 10 9))) e), sym (passed-over _ _ _ off))
+
+returns : tie.Need-returns
 returns c =
     let a = c .before .before .before .before .before .before .before .args in
-    let off = lt-leb (a .choice) 1 (c .before .before .before .if1 .taken) in
-    let fit = sym (c .before .lent-fit .ensures) ∙ c .if2 .taken in
-    (sym (passed-over _ _ _ off ∙ ap (λ (b : Bool). step (a .last .0) (Refused (must b 10 9))) fit), sym (passed-over _ _ _ off))
+    no-choice (a .t .now) (a .catalogue .now) (a .lives .now) (a .last .0) (a .arrival) (a .lto) (a .choice) true (c .before .before .before .if1 .taken) (sym (c .before .lent-fit .ensures) ∙ c .if2 .taken)
 
 returns-2 : tie.Need-returns-2
-unfolding chosenStep chosenTable
 returns-2 c =
     let a = c .before .before .before .before .before .before .before .args in
-    let off = lt-leb (a .choice) 1 (c .before .before .before .if1 .taken) in
-    let unfit = sym (c .before .lent-fit .ensures) ∙ c .if2 .left in
-    (sym (passed-over _ _ _ off ∙ ap (λ (b : Bool). step (a .last .0) (Refused (must b 10 9))) unfit), sym (passed-over _ _ _ off))
+    no-choice (a .t .now) (a .catalogue .now) (a .lives .now) (a .last .0) (a .arrival) (a .lto) (a .choice) false (c .before .before .before .if1 .taken) (sym (c .before .lent-fit .ensures) ∙ c .if2 .left)
 
 returns-3 : tie.Need-returns-3
 unfolding chosenStep chosenTable
