@@ -28,7 +28,7 @@ pub record Least (rs : List (List ℕ)) (place m : ℕ) : Type 0 where
   inside : place < length rs
 
 module _ {rs : List (List ℕ)} {place m : ℕ} (least : Least rs place m) where
-  -- record i
+  -- when record i ends
   abbrev end : ℕ → ℕ
   end i = expiryIn (getD rs i freeRecord)
 
@@ -39,7 +39,7 @@ module _ {rs : List (List ℕ)} {place m : ℕ} (least : Least rs place m) where
   low-at i h = leb-true m (end i) (all-at (λ x. leb m (expiryIn x)) rs i freeRecord (least .low) h)
 
   -- it is the one that ends soonest
-  pub soonest-is : soonest rs ≡ place
+  soonest-is : soonest rs ≡ place
   unfolding soonest
   soonest-is = first-same (λ r. allOf (λ x. leb (expiryIn r) (expiryIn x)) rs) (endsBy m) rs freeRecord (λ i h. same i h (leb (end i) m) refl) ∙ least .found
     where
@@ -52,21 +52,21 @@ module _ {rs : List (List ℕ)} {place m : ℕ} (least : Least rs place m) where
           by-all false k = k ∙ sym e
 
   -- no record ends sooner, and each one before it ends later
-  pub none-sooner : (i : ℕ) → i < length rs → end place ≤ end i
+  none-sooner : (i : ℕ) → i < length rs → end place ≤ end i
   none-sooner i h = omega (arith, ends-at, low-at i h)
 
-  pub later-before : (i : ℕ) → i < place → end place < end i
+  later-before : (i : ℕ) → i < place → end place < end i
   later-before i h = omega (arith, ends-at, leb-false (end i) m (first-before (endsBy m) rs i freeRecord (subst (λ (n : ℕ). i < n) (sym (least .found)) h)))
 
   -- one record more: it ends sooner, or not
-  pub least-new : (r : List ℕ) → expiryIn r < m → Least (rs ++ (r ∷ [])) (length rs) (expiryIn r)
+  least-new : (r : List ℕ) → expiryIn r < m → Least (rs ++ (r ∷ [])) (length rs) (expiryIn r)
   least-new r h = record {
     low = all-snoc (λ x. leb (expiryIn r) (expiryIn x)) rs r (all-within (λ x. leb m (expiryIn x)) (λ x. leb (expiryIn r) (expiryIn x)) rs (λ x k. le-leb (expiryIn r) (expiryIn x) (omega (arith, leb-true m (expiryIn x) k))) (least .low)) (le-leb (expiryIn r) (expiryIn r) (omega arith));
     found = first-last (endsBy (expiryIn r)) (λ x. leb m (expiryIn x)) rs r (λ x k. lt-leb (expiryIn x) (expiryIn r) (omega (arith, leb-true m (expiryIn x) k))) (least .low) (le-leb (expiryIn r) (expiryIn r) (omega arith));
     inside = omega (arith, length-append rs (r ∷ []));
   }
 
-  pub least-same : (r : List ℕ) → m ≤ expiryIn r → Least (rs ++ (r ∷ [])) place m
+  least-same : (r : List ℕ) → m ≤ expiryIn r → Least (rs ++ (r ∷ [])) place m
   least-same r h = record {
     low = all-snoc (λ x. leb m (expiryIn x)) rs r (least .low) (le-leb m (expiryIn r) h);
     found = first-snoc (endsBy m) rs r (subst (λ (n : ℕ). n < length rs) (sym (least .found)) (least .inside)) ∙ least .found;
@@ -74,7 +74,7 @@ module _ {rs : List (List ℕ)} {place m : ℕ} (least : Least rs place m) where
   }
 
 -- one record alone
-pub least-one : (r : List ℕ) → Least (r ∷ []) 0 (expiryIn r)
+least-one : (r : List ℕ) → Least (r ∷ []) 0 (expiryIn r)
 unfolding allOf firstOf
 least-one r =
     let self = le-leb (expiryIn r) (expiryIn r) (omega arith) in
@@ -82,14 +82,14 @@ least-one r =
 
 -- among the first records of a table, with one more
 module _ (t : List ℕ) (i : ℕ) {place m : ℕ} (least : Least (chunks (suc i) t) place m) where
-  pub sooner-next : expiryIn (nth t (suc i)) < m → Least (chunks (suc (suc i)) t) (suc i) (expiryIn (nth t (suc i)))
+  sooner-next : expiryIn (nth t (suc i)) < m → Least (chunks (suc (suc i)) t) (suc i) (expiryIn (nth t (suc i)))
   sooner-next h = subst₂ (λ (rs : List (List ℕ)) (n : ℕ). Least rs n (expiryIn (nth t (suc i)))) (sym (chunks-suc (suc i) t)) (length-chunks (suc i) t) (least-new least (nth t (suc i)) h)
 
-  pub later-next : m ≤ expiryIn (nth t (suc i)) → Least (chunks (suc (suc i)) t) place m
+  later-next : m ≤ expiryIn (nth t (suc i)) → Least (chunks (suc (suc i)) t) place m
   later-next h = subst (λ (rs : List (List ℕ)). Least rs place m) (sym (chunks-suc (suc i) t)) (least-same least (nth t (suc i)) h)
 
 -- some one ends soonest
-pub some-least : (P : Type 0) (i : ℕ) (t : List ℕ) → ((place m : ℕ) → Least (chunks (suc i) t) place m → P) → P
+some-least : (P : Type 0) (i : ℕ) (t : List ℕ) → ((place m : ℕ) → Least (chunks (suc i) t) place m → P) → P
 unfolding chunks
 some-least P zero t told = told 0 (expiryIn (nth t 0)) (least-one (nth t 0))
 some-least P (suc i) t told = some-least P i t (λ place m least. by-end place m least (leb m (expiryIn (nth t (suc i)))) refl)
@@ -100,6 +100,7 @@ some-least P (suc i) t told = some-least P i t (λ place m least. by-end place m
 
 -- of a table with a record at least: it is within the table, none ends sooner, and each one before it ends later
 module _ (t : List ℕ) (some : 0 < length t / recordSize) where
+  -- when record i ends
   abbrev ending : ℕ → ℕ
   ending i = expiryIn (getD (records t) i freeRecord)
 

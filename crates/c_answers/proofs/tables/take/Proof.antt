@@ -1,5 +1,6 @@
 -- A number that is no choice, or a take.
 use Prim.Native.Nat.{ℕ, _<_}
+use native.Mathlib.Omega.{arith}
 use mathlib.Core.Path.{_≡_, sym, ap, ap₂, _∙_}
 use mathlib.Core.Bool.{Bool, true, false}
 use mathlib.Core.List.{List}
@@ -31,12 +32,12 @@ no-choice t c l last a lto number fits h e =
 returns : tie.Need-returns
 returns c =
     let a = c .before .before .before .before .before .before .before .args in
-    no-choice (a .t .now) (a .catalogue .now) (a .lives .now) (a .last .0) (a .arrival) (a .lto) (a .choice) true (c .before .before .before .if1 .taken) (sym (c .before .lent-fit .ensures) ∙ c .if2 .taken)
+    no-choice (a .t .now) (a .catalogue .now) (a .lives .now) (a .last .0) (a .arrival) (a .lto) (a .choice) true (omega (arith, c .before .before .before .if1 .taken)) (sym (c .before .lent-fit .ensures) ∙ c .if2 .taken)
 
 returns-2 : tie.Need-returns-2
 returns-2 c =
     let a = c .before .before .before .before .before .before .before .args in
-    no-choice (a .t .now) (a .catalogue .now) (a .lives .now) (a .last .0) (a .arrival) (a .lto) (a .choice) false (c .before .before .before .if1 .taken) (sym (c .before .lent-fit .ensures) ∙ c .if2 .left)
+    no-choice (a .t .now) (a .catalogue .now) (a .lives .now) (a .last .0) (a .arrival) (a .lto) (a .choice) false (omega (arith, c .before .before .before .if1 .taken)) (sym (c .before .lent-fit .ensures) ∙ c .if2 .left)
 
 returns-3 : tie.Need-returns-3
 unfolding chosenStep chosenTable
