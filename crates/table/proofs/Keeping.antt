@@ -26,7 +26,7 @@ use Rattle.table.specs.Keeping.{keepingRefusal, keepingStep, keepingTabl
 use Rattle.table.proofs.Counts.{clash}
 use Rattle.table.proofs.Accepted.{passed}
 
--- where something is accepted and there is no room for an ordinary event, nothing depends on what would be done then
+-- where no ordinary event is accepted for a full table, what would be done with one does not matter
 full-unasked : {A : Type 0} (n : ℕ) (o f : Bool) (g : Bool → A) (x y : A) → (n ≡ 0 → o && f ≡ false) → cond (eqb n 0) (cond o (g f) x) y ≡ cond (eqb n 0) (cond o (g false) x) y
 full-unasked n false f g x y h = refl
 full-unasked n true false g x y h = refl
@@ -49,7 +49,7 @@ module _ (t c l : List ℕ) (last : ℕ) (a : Arrival) (lto : ℤ) where
   abbrev full : Bool
   full = noRoom minute match t
 
-  -- the place, where the table is full or not
+  -- the place, by whether the table is full
   place : Bool → ℕ
   place f = cond f (soonest (records (afterMatching minute match t))) (freeIn minute match t)
 
