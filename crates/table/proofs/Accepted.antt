@@ -62,25 +62,24 @@ used-never q only = by-test (q freeRecord) refl
     by-test true e = clash refl (only freeRecord e)
     by-test false e = e
 
+pub matches-never : (c : List ℕ) (a : Arrival) → matchesOf c a freeRecord ≡ false
+matches-never c a = used-never (matchesOf c a) (matches-used c a)
+
+-- the record that is stored
+module _ (c l : List ℕ) (a : Arrival) (lto : ℤ) where
+  pub made-used : isFree (recordFor c l a lto) ≡ false
+  unfolding recordOf
+  made-used = refl
+
+  pub made-sized : length (recordFor c l a lto) ≡ recordSize
+  made-sized = length-made (a .report) (a .service) (setFor c (a .report)) (expiryFor c l a lto)
+
 module _ (t c l : List ℕ) (last : ℕ) (a : Arrival) (lto : ℤ) (full : WhenFull) where
   abbrev pub minute : ℕ
   minute = a .minute .0
 
   abbrev pub kind : ℕ
   kind = kindFor c (a .report)
-
-  abbrev pub made : List ℕ
-  made = recordFor c l a lto
-
-  pub matches-never : matchesOf c a freeRecord ≡ false
-  matches-never = used-never (matchesOf c a) (matches-used c a)
-
-  pub made-used : isFree made ≡ false
-  unfolding recordOf
-  made-used = refl
-
-  pub made-sized : length made ≡ recordSize
-  made-sized = length-made (a .report) (a .service) (setFor c (a .report)) (expiryFor c l a lto)
 
   -- past the checks, and with room where it is needed
   pub passed : takeRefusal t c l last a lto full ≡ 0 → (checkRefusal t c l last a lto ≡ 0) × (eqb kind 1 && (noRoom minute (matchesOf c a) t && keeps full) ≡ false)
@@ -114,23 +113,23 @@ module _ (t c l : List ℕ) (last : ℕ) (a : Arrival) (lto : ℤ) (full : WhenF
         after = afterMatching minute (matchesOf c a) t
 
         same : length after ≡ length t
-        same = length-both minute (matchesOf c a) matches-never t whole
+        same = length-both minute (matchesOf c a) (matches-never c a) t whole
 
         by-room : (b : Bool) → noRoom minute (matchesOf c a) t ≡ b → cond b (soonest (records after)) (freeIn minute (matchesOf c a) t) < length t / recordSize
         by-room true e = subst (λ (n : ℕ). soonest (records after) < n / recordSize) same (soonest-ends after (subst (λ (n : ℕ). 0 < n / recordSize) (sym same) (table-some t (lent-table t c l (ok .lent)))) .0)
         by-room false e = leb-false (length t / recordSize) (freeIn minute (matchesOf c a) t) e
 
     pub both-whole : length (afterMatching minute (matchesOf c a) t) % recordSize ≡ 0
-    both-whole = whole-both minute (matchesOf c a) matches-never t whole
+    both-whole = whole-both minute (matchesOf c a) (matches-never c a) t whole
 
     pub both-inside : placeIn minute (matchesOf c a) t < length (afterMatching minute (matchesOf c a) t) / recordSize
-    both-inside = subst (λ (n : ℕ). placeIn minute (matchesOf c a) t < n / recordSize) (sym (length-both minute (matchesOf c a) matches-never t whole)) inside
+    both-inside = subst (λ (n : ℕ). placeIn minute (matchesOf c a) t < n / recordSize) (sym (length-both minute (matchesOf c a) (matches-never c a) t whole)) inside
 
   -- what holds of the table at entry and of the tables that a take may leave, holds of the table afterwards
   pub after-take :
       (P : List ℕ → Type 0) → P t
       → (takeRefusal t c l last a lto full ≡ 0 → P (afterMatching minute (matchesOf c a) t))
-      → (takeRefusal t c l last a lto full ≡ 0 → kind ≡ 1 → P (afterStoring minute (matchesOf c a) made t))
+      → (takeRefusal t c l last a lto full ≡ 0 → kind ≡ 1 → P (afterStoring minute (matchesOf c a) (recordFor c l a lto) t))
       → P (takeTable t c l last a lto full)
   unfolding takenTable
   after-take P here freed stored = by-refusal (eqb (takeRefusal t c l last a lto full) 0) refl

@@ -59,13 +59,13 @@ module _ (t c l : List ℕ) (last : ℕ) (a : Arrival) (lto : ℤ) (full : WhenF
 
     matched-is : matchedIn m q t ≡ countIf (onlySecond (expired m) q) (records t)
     unfolding countWhere
-    matched-is = matched-counted m q (matches-never t c l last a lto full) t (whole t c l last a lto full fine)
+    matched-is = matched-counted m q (matches-never c a) t (whole t c l last a lto full fine)
 
     freed-way : (u : List ℕ) → eqb (kindFor c (a .report)) 1 ≡ false → u ≡ afterMatching m q t → Effect c t last call (step m (Freed (expiredIn m t) (matchedIn m q t))) u
     unfolding countWhere
     freed-way u e f =
         subst (λ (n : ℕ). Effect c t last call (step m (Freed (expiredIn m t) n)) u) (sym matched-is)
-        (frees e forward (ap records f ∙ records-both m q (matches-never t c l last a lto full) t (whole t c l last a lto full fine)))
+        (frees e forward (ap records f ∙ records-both m q (matches-never c a) t (whole t c l last a lto full fine)))
 
     -- stored, in a free record or, where there is no room, in that of the one that ends soonest
     stored-way : (u : List ℕ) → eqb (kindFor c (a .report)) 1 ≡ true → u ≡ afterStoring m q (madeOf c call) t → Effect c t last call (step m (storingAnswer m q t)) u
@@ -73,7 +73,7 @@ module _ (t c l : List ℕ) (last : ℕ) (a : Arrival) (lto : ℤ) (full : WhenF
     stored-way u e f = by-room (noRoom m q t) refl
       where
         never : matchesOf c a freeRecord ≡ false
-        never = matches-never t c l last a lto full
+        never = matches-never c a
 
         w : length t % recordSize ≡ 0
         w = whole t c l last a lto full fine
@@ -84,7 +84,7 @@ module _ (t c l : List ℕ) (last : ℕ) (a : Arrival) (lto : ℤ) (full : WhenF
         after : records u ≡ set (freedBy c call (records t)) (placeIn m q t) (madeOf c call)
         after =
             ap records f
-            ∙ records-stored (afterMatching m q t) (madeOf c call) (placeIn m q t) (both-whole t c l last a lto full fine) (both-inside t c l last a lto full fine) (made-sized t c l last a lto full)
+            ∙ records-stored (afterMatching m q t) (madeOf c call) (placeIn m q t) (both-whole t c l last a lto full fine) (both-inside t c l last a lto full fine) (made-sized c l a lto)
             ∙ ap (λ (rs : List (List ℕ)). set rs (placeIn m q t) (madeOf c call)) (records-both m q never t w)
 
         free : noRoom m q t ≡ false → placeIn m q t ≡ firstOf isFree (freedBy c call (records t))
@@ -202,7 +202,7 @@ module _ (c t : List ℕ) (last : ℕ) (call : Call) where
       gone = omega (arith, count-freed (either (expired (minuteOf call)) (matchOf c call)) (records t) (ends-used call), count-either (expired (minuteOf call)) (matchOf c call) (records t))
 
       made-one : (k : Call) → storesOf c k ≡ true → num (used (madeOf c k)) ≡ 1
-      made-one (taking a lto l full) e = ap (λ (b : Bool). num (not b)) (made-used t c l last a lto full)
+      made-one (taking a lto l full) e = ap (λ (b : Bool). num (not b)) (made-used c l a lto)
       made-one (expiring minute) e = absurd (let z : _≡_ {A = ℕ} 0 1 = (let f : true ≡ false = sym e in cc) in omega arith)
 
       by-effect : {s : Step} {u : List ℕ} → Effect c t last call s u → usedIn u + expiredOf (s .answer) + matchedOf (s .answer) + droppedOf (s .answer) ≡ usedIn t + storedOf (s .answer)

@@ -89,10 +89,10 @@ module _ (t c l : List ℕ) (last : ℕ) (a : Arrival) (lto : ℤ) (full : WhenF
   unfolding afterStoring
   same-length =
       after-take t c l last a lto full (λ u. length u ≡ length t) refl
-      (λ fine. length-both minute match (matches-never t c l last a lto full) t (whole t c l last a lto full fine))
+      (λ fine. length-both minute match (matches-never c a) t (whole t c l last a lto full fine))
       (λ fine is-1.
-      length-stored (afterMatching minute match t) (recordFor c l a lto) (placeIn minute match t) (both-whole t c l last a lto full fine) (both-inside t c l last a lto full fine) (made-sized t c l last a lto full)
-      ∙ length-both minute match (matches-never t c l last a lto full) t (whole t c l last a lto full fine))
+      length-stored (afterMatching minute match t) (recordFor c l a lto) (placeIn minute match t) (both-whole t c l last a lto full fine) (both-inside t c l last a lto full fine) (made-sized c l a lto)
+      ∙ length-both minute match (matches-never c a) t (whole t c l last a lto full fine))
 
   -- a test that holds of every record at entry, of a free one and of the one that is stored holds of every record afterwards
   pub each-keeps : (p : List ℕ → Bool) → p freeRecord ≡ true → (takeRefusal t c l last a lto full ≡ 0 → kind ≡ 1 → p (recordFor c l a lto) ≡ true) → allOf p (records t) ≡ true → allOf p (records after) ≡ true
@@ -100,13 +100,13 @@ module _ (t c l : List ℕ) (last : ℕ) (a : Arrival) (lto : ℤ) (full : WhenF
   each-keeps p free made h =
       after-take t c l last a lto full (λ u. allOf p (records u) ≡ true) h both
       (λ fine is-1.
-      stored-each p (afterMatching minute match t) (recordFor c l a lto) (placeIn minute match t) (both-whole t c l last a lto full fine) (both-inside t c l last a lto full fine) (made-sized t c l last a lto full) (both fine)
+      stored-each p (afterMatching minute match t) (recordFor c l a lto) (placeIn minute match t) (both-whole t c l last a lto full fine) (both-inside t c l last a lto full fine) (made-sized c l a lto) (both fine)
       (made fine is-1))
     where
       both : takeRefusal t c l last a lto full ≡ 0 → allOf p (records (afterMatching minute match t)) ≡ true
       both fine =
           let w = whole t c l last a lto full fine in
-          ap (λ (u : List ℕ). allOf p (records u)) (both-at-once minute match (matches-never t c l last a lto full) t w) ∙ free-each p (either (expired minute) match) t w free h
+          ap (λ (u : List ℕ). allOf p (records u)) (both-at-once minute match (matches-never c a) t w) ∙ free-each p (either (expired minute) match) t w free h
 
   pub take-keeps : tableFits t ≡ true → tableFits after ≡ true
   take-keeps fits =
@@ -118,7 +118,7 @@ module _ (t c l : List ℕ) (last : ℕ) (a : Arrival) (lto : ℤ) (full : WhenF
 
     none-left : countIf match freed ≡ 0
     none-left = count-map match (λ r. match (freedIf (either (expired minute) match) r)) (freedIf (either (expired minute) match)) (records t) (λ r. refl)
-        ∙ count-none (λ r. match (freedIf (either (expired minute) match) r)) (records t) (second-gone (expired minute) match (matches-never t c l last a lto full))
+        ∙ count-none (λ r. match (freedIf (either (expired minute) match) r)) (records t) (second-gone (expired minute) match (matches-never c a))
 
     -- after a cancelling message no record is left of its service, location and direction that shares a class with it
     pub cancelled : kind ≡ 2 → countIf match (records after) ≡ 0
@@ -126,7 +126,7 @@ module _ (t c l : List ℕ) (last : ℕ) (a : Arrival) (lto : ℤ) (full : WhenF
     cancelled is-2 =
         let off : eqb kind 1 ≡ false = ne-eqb kind 1 (λ e. omega arith) in
         ap (λ (u : List ℕ). countIf match (records u)) (sym (accepted-take t c l last a lto full fine .1) ∙ passed-over _ _ _ off)
-        ∙ ap (countIf match) (records-both minute match (matches-never t c l last a lto full) t (whole t c l last a lto full fine))
+        ∙ ap (countIf match) (records-both minute match (matches-never c a) t (whole t c l last a lto full fine))
         ∙ none-left
 
     module _ (is-1 : kind ≡ 1) where
@@ -144,8 +144,8 @@ module _ (t c l : List ℕ) (last : ℕ) (a : Arrival) (lto : ℤ) (full : WhenF
       unfolding takenTable afterStoring
       stored-records =
           ap records (sym (accepted-take t c l last a lto full fine .1) ∙ chosen _ _ _ (eq-eqb kind 1 is-1))
-          ∙ records-stored (afterMatching minute match t) (recordFor c l a lto) place (both-whole t c l last a lto full fine) (both-inside t c l last a lto full fine) (made-sized t c l last a lto full)
-          ∙ ap (λ (rs : List (List ℕ)). set rs place (recordFor c l a lto)) (records-both minute match (matches-never t c l last a lto full) t (whole t c l last a lto full fine))
+          ∙ records-stored (afterMatching minute match t) (recordFor c l a lto) place (both-whole t c l last a lto full fine) (both-inside t c l last a lto full fine) (made-sized c l a lto)
+          ∙ ap (λ (rs : List (List ℕ)). set rs place (recordFor c l a lto)) (records-both minute match (matches-never c a) t (whole t c l last a lto full fine))
 
       -- the report of an ordinary event is stored, and every other record is free if it has expired or matches and else is as it was
       pub stored-there : recordNo after place ≡ recordFor c l a lto
@@ -172,7 +172,7 @@ module _ (t c l : List ℕ) (last : ℕ) (a : Arrival) (lto : ℤ) (full : WhenF
       unfolding matches num
       only-record =
           let own : match (recordFor c l a lto) ≡ true = ap₂ (λ (x y : Bool). (x || eqb kind 2) && y) (eq-eqb kind 1 is-1) own-matches in
-          let free : match (getD freed place freeRecord) ≡ false = ap match (each-record (either (expired minute) match) (records t) place) ∙ second-gone (expired minute) match (matches-never t c l last a lto full) (recordNo t place) in
+          let free : match (getD freed place freeRecord) ≡ false = ap match (each-record (either (expired minute) match) (records t) place) ∙ second-gone (expired minute) match (matches-never c a) (recordNo t place) in
           let old : num (match (getD freed place freeRecord)) ≡ 0 = ap num free in
           let new : num (match (recordFor c l a lto)) ≡ 1 = ap num own in
           ap (countIf match) stored-records ∙ omega (arith, count-set match freed place (recordFor c l a lto) freeRecord room, none-left, old, new)
