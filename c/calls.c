@@ -624,7 +624,6 @@ static void rds(void) {
 static void fig(void) {
     const uint8_t bytes[] = {WORKED_FIG};
     uint64_t words[ALERTC_FIG_SYSTEM_WORDS];
-    uint8_t out[ALERTC_FIG_BYTES];
     TOUCH_NONE(words);
     struct alertc_fig_reading r =
         alertc_fig_read(bytes, sizeof bytes, words, ALERTC_FIG_SYSTEM_WORDS);
@@ -635,18 +634,6 @@ static void fig(void) {
     SAME(words[0], FIRST_401);
     SAME(words[1], LATER_401);
     REST_UNTOUCHED(words, 2);
-    TOUCH_NONE(out);
-    struct alertc_written w = alertc_fig_write(r.fig, words, r.count, out, sizeof out);
-    SAME(w.refusal, ALERTC_ACCEPTED);
-    SAME(w.count, sizeof bytes);
-    SAME_BYTES(out, bytes, sizeof bytes);
-    REST_UNTOUCHED(out, sizeof bytes);
-    TOUCH_NONE(out);
-    SAME(alertc_fig_write(r.fig, words, r.count, out, sizeof bytes - 1).refusal,
-         ALERTC_REFUSED_BUFFER);
-    SAME(alertc_fig_write(r.fig, words, 0, out, sizeof out).refusal, ALERTC_REFUSED_UNFIT);
-    SAME(alertc_fig_write(r.fig, words, 0, out, sizeof out).count, 0);
-    REST_UNTOUCHED(out, 0);
 
     TOUCH_NONE(words);
     r = alertc_fig_read(bytes, sizeof bytes, words, 1);
@@ -664,9 +651,54 @@ static void fig(void) {
     SAME(r.fig.tcid, 5);
     SAME(r.count, 1);
     SAME(words[0], 0x0466);
-    TOUCH_NONE(out);
-    SAME(alertc_fig_write(r.fig, words, 1, out, sizeof out).count, sizeof system_fig);
-    SAME_BYTES(out, system_fig, sizeof system_fig);
+    REST_UNTOUCHED(words, 1);
+
+    /* Six words of TCId 7 in the most bytes. */
+    const uint8_t longest[ALERTC_FIG_BYTES] = {
+        0xBD, 0x39, 0x5A, 0x83, 0x29, 0x81, 0xCA, 0xD4, 0x19, 0x4C, 0x0E, 0x56, 0xA0, 0xCA, 0x60,
+        0x72, 0xB5, 0x06, 0x53, 0x03, 0x95, 0xA8, 0x32, 0x98, 0x1C, 0xAD, 0x41, 0x94, 0xC0, 0xE4};
+    TOUCH_NONE(words);
+    r = alertc_fig_read(longest, sizeof longest, words, ALERTC_FIG_WORDS);
+    SAME(r.refusal, ALERTC_ACCEPTED);
+    SAME(r.fig.d1, 0);
+    SAME(r.fig.tcid, 7);
+    SAME(r.count, ALERTC_FIG_WORDS);
+    for (size_t i = 0; i < ALERTC_FIG_WORDS; i++) {
+        SAME(words[i], SINGLE_101);
+    }
+    REST_UNTOUCHED(words, ALERTC_FIG_WORDS);
+}
+
+/* FIGs of every length, all data zero: those that the rules list have words, and no others. */
+static void fig_lengths(void) {
+    const size_t data_lengths[ALERTC_FIG_WORDS] = {5, 10, 14, 19, 24, 28};
+    uint8_t bytes[ALERTC_FIG_BYTES + 1] = {0};
+    size_t last = 0;
+    for (size_t length = 2; length <= sizeof bytes; length++) {
+        size_t data_length = length - 2;
+        size_t count = 0;
+        if (last < ALERTC_FIG_WORDS && data_lengths[last] == data_length) {
+            count = ++last;
+        }
+        size_t system_count = data_length % 2 == 0 ? data_length / 2 : 0;
+        bytes[0] = (uint8_t)(0xA0 + length - 1);
+        for (uint8_t d1 = 0; d1 <= 1; d1++) {
+            uint64_t words[ALERTC_FIG_SYSTEM_WORDS], words_after[ALERTC_FIG_SYSTEM_WORDS];
+            size_t carried = d1 == 0 ? count : system_count;
+            bytes[1] = (uint8_t)(0x80 * d1 + 0x01);
+            TOUCH_NONE(words);
+            TOUCH_NONE(words_after);
+            memset(words_after, 0, carried * sizeof words_after[0]);
+            struct alertc_fig_reading r =
+                alertc_fig_read(bytes, length, words, ALERTC_FIG_SYSTEM_WORDS);
+            SAME(r.refusal, carried == 0 ? ALERTC_REFUSED_LENGTH : ALERTC_ACCEPTED);
+            SAME(r.count, carried);
+            SAME(r.fig.d1, carried == 0 ? 0 : d1);
+            SAME(r.fig.tcid, 0);
+            SAME_BYTES((const uint8_t *)words, (const uint8_t *)words_after, sizeof words);
+        }
+    }
+    SAME(last, ALERTC_FIG_WORDS);
 }
 
 /*
@@ -693,6 +725,10 @@ static const uint8_t header_last[ALERTC_FIB_BYTES] = {WORKED_FIG, WORKED_FIG, 0x
 static const uint8_t mixed[ALERTC_FIB_BYTES] = {WORKED_FIG, 0xA2, 0x0A, 0, 0xA3, 0x89, 0x04,
                                                 0x66,       0xFF, 0,    0, 0,    0,    0,
                                                 0,          0,    0,    0, 0,    0x9B, 0xC4};
+/* Three words of TCId 2, then two system words of TCId 7. */
+static const uint8_t two_services[ALERTC_FIB_BYTES] = {
+    0xAF, 0x11, 0x5A, 0x83, 0x29, 0x81, 0xC8, 0xA2, 0x64, 0x40, 0x7D, 0x04, 0x86, 0xA0, 0x40, 0x00,
+    0xA5, 0xB9, 0x04, 0x66, 0x69, 0x5E, 0xFF, 0,    0,    0,    0,    0,    0,    0,    0x1D, 0x39};
 /* Types 0, 5 and 7 with count 0, types 1 and 7, FIG 5/2; behind them a system word of TCId 5. */
 static const uint8_t others[ALERTC_FIB_BYTES] = {
     0x00, 0xA0, 0x21, 0x00, 0xE3, 0x09, 0x04, 0x66, 0xE0, 0xA3, 0xAA, 0x04, 0x66, 0x23, 0x09, 0x04,
@@ -776,6 +812,7 @@ static void fib(void) {
     SAME(alertc_origin_fig(13).d1, 1);
     SAME(alertc_origin_fig(13).tcid, 5);
 
+    SAME(alertc_check_word(one_fig, ALERTC_FIB_DATA_BYTES), 0x2CA6);
     SAME_BLOCK(no_figs, answered(0, 0, 0), nothing);
     SAME_BLOCK(zeros, answered(0, 0, 0), nothing);
     SAME_BLOCK(one_fig, answered(2, 0, 0), worked_twice);
@@ -787,6 +824,9 @@ static void fib(void) {
     const struct carried of_both = {{FIRST_401, LATER_401, 0x0466}, {1, 1, 9}};
     const struct carried of_tcid_1 = {{0x0466}, {9}}, of_tcid_5 = {{0x0466}, {13}};
     SAME_BLOCK(mixed, answered(3, 0, 0), of_both);
+    const struct carried of_two_services = {{SINGLE_101, FIRST_401, LATER_401, 0x0466, 0x695E},
+                                            {2, 2, 2, 15, 15}};
+    SAME_BLOCK(two_services, answered(5, 0, 0), of_two_services);
     SAME_BLOCK(others, answered(1, 0, 0), of_tcid_5);
 
     /* What stands after the end marker is not looked at: FIGs, and one that would run past. */
@@ -856,89 +896,6 @@ static void fib(void) {
                    length == ALERTC_FIB_BYTES ? answered(2, 0, 0) : refused(ALERTC_REFUSED_LENGTH),
                    worked_twice);
     }
-}
-
-#define PACKED(block, count) packed(__LINE__, block, count)
-
-/* The FIGs in the first bytes of a block are packed into that block. */
-static void packed(int line, const uint8_t *block, size_t count) {
-    uint8_t out[ALERTC_FIB_BYTES + 1];
-    for (size_t room = ALERTC_FIB_BYTES; room <= sizeof out; room++) {
-        TOUCH_NONE(out);
-        struct alertc_written w = alertc_fib_write(block, count, out, room);
-        same(line, "refusal", w.refusal, ALERTC_ACCEPTED);
-        same(line, "count", w.count, ALERTC_FIB_BYTES);
-        same_bytes(line, "block", out, block, ALERTC_FIB_BYTES);
-        rest_untouched(line, "rest", out, ALERTC_FIB_BYTES, sizeof out);
-    }
-}
-
-#define NOT_PACKED(figs, count, room, refusal) not_packed(__LINE__, figs, count, room, refusal)
-
-/* Bytes are not packed, for this refusal, and the lent room is untouched. */
-static void not_packed(int line, const uint8_t *figs, size_t count, size_t room, uint8_t refusal) {
-    uint8_t out[ALERTC_FIB_BYTES];
-    TOUCH_NONE(out);
-    struct alertc_written w = alertc_fib_write(figs, count, out, room);
-    same(line, "refusal", w.refusal, refusal);
-    same(line, "count", w.count, 0);
-    rest_untouched(line, "rest", out, 0, sizeof out);
-}
-
-static void fib_writer(void) {
-    PACKED(no_figs, 0);
-    PACKED(one_fig, 12);
-    PACKED(two_figs, 24);
-    PACKED(filled, 30);
-    PACKED(marker_last, 29);
-    PACKED(header_last, 30);
-    PACKED(mixed, 19);
-    PACKED(others, 22);
-    PACKED(ones_within, 16);
-    PACKED(zeros, 30);
-    PACKED(most_words, 30);
-    PACKED(d2_set, 8);
-    PACKED(no_data, 6);
-
-    /* Cut FIGs, more than 30 bytes, 0xFF in a header's place. */
-    for (size_t count = 1; count < ALERTC_FIB_DATA_BYTES; count++) {
-        if (count != 12 && count != 18) {
-            NOT_PACKED(filled, count, ALERTC_FIB_BYTES, ALERTC_REFUSED_UNFIT);
-        }
-    }
-    const uint8_t byte_more[] = {WORKED_FIG, 0x05, 0, 0, 0, 0, 1, WORKED_FIG, 0x00};
-    const uint8_t ones[ALERTC_FIB_BYTES] = {0xFF};
-    const uint8_t ones_second[] = {WORKED_FIG, 0xFF};
-    const uint8_t none[40] = {0};
-    NOT_PACKED(byte_more, sizeof byte_more, ALERTC_FIB_BYTES, ALERTC_REFUSED_UNFIT);
-    NOT_PACKED(ones_second, sizeof ones_second, ALERTC_FIB_BYTES, ALERTC_REFUSED_UNFIT);
-    for (size_t count = 1; count <= sizeof ones; count++) {
-        NOT_PACKED(ones, count, ALERTC_FIB_BYTES, ALERTC_REFUSED_UNFIT);
-    }
-    for (size_t count = ALERTC_FIB_DATA_BYTES + 1; count <= sizeof none; count++) {
-        NOT_PACKED(none, count, ALERTC_FIB_BYTES, ALERTC_REFUSED_UNFIT);
-    }
-
-    /* Too little room comes last. */
-    for (size_t room = 0; room < ALERTC_FIB_BYTES; room++) {
-        NOT_PACKED(no_figs, 0, room, ALERTC_REFUSED_BUFFER);
-        NOT_PACKED(filled, 30, room, ALERTC_REFUSED_BUFFER);
-        NOT_PACKED(filled, 29, room, ALERTC_REFUSED_UNFIT);
-    }
-
-    /* From words to a block and back. */
-    const struct carried written = {{SINGLE_101, FIRST_401, LATER_401, 0x0466, 0x695E},
-                                    {2, 2, 2, 15, 15}};
-    uint8_t figs[ALERTC_FIB_DATA_BYTES], block[ALERTC_FIB_BYTES];
-    size_t first =
-        alertc_fig_write(alertc_origin_fig(2), written.words, 3, figs, sizeof figs).count;
-    size_t second = alertc_fig_write(alertc_origin_fig(15), written.words + 3, 2, figs + first,
-                                     sizeof figs - first)
-                        .count;
-    SAME(first, 16);
-    SAME(second, 6);
-    SAME(alertc_fib_write(figs, first + second, block, sizeof block).refusal, ALERTC_ACCEPTED);
-    SAME_BLOCK(block, answered(5, 0, 0), written);
 }
 
 static void drm(void) {
@@ -2343,8 +2300,8 @@ int main(void) {
     inter_road();
     rds();
     fig();
+    fig_lengths();
     fib();
-    fib_writer();
     drm();
     table();
     border();

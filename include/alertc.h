@@ -46,10 +46,10 @@ extern "C" {
 #endif
 
 /* The version of this interface: the first number changes when a caller must change. */
-#define ALERTC_VERSION_MAJOR 7
+#define ALERTC_VERSION_MAJOR 8
 #define ALERTC_VERSION_MINOR 0
 #define ALERTC_VERSION_PATCH 0
-#define ALERTC_VERSION "7.0.0"
+#define ALERTC_VERSION "8.0.0"
 
 /* ---- Refusals ---- */
 
@@ -94,7 +94,7 @@ static inline const char *alertc_refusal_text(unsigned refusal) {
     case ALERTC_REFUSED_LABEL_15:
         return "content: label 15";
     case ALERTC_REFUSED_UNFIT:
-        return "report, field, word, FIGs, state, place or choice unfit";
+        return "report, field, word, state, place or choice unfit";
     case ALERTC_REFUSED_MALFORMED:
         return "table, record, catalogue or lives malformed";
     case ALERTC_REFUSED_EVENT:
@@ -391,13 +391,6 @@ struct alertc_fig_reading {
 struct alertc_fig_reading alertc_fig_read(const uint8_t *bytes, size_t bytes_len,
                                           uint64_t *words, size_t words_len);
 
-/*
- * Writes a FIG with these words, at most ALERTC_FIG_BYTES bytes. Refused: a field or word out of
- * its range, no words or too many (9), less room than needed (15).
- */
-struct alertc_written alertc_fig_write(struct alertc_fig fig, const uint64_t *words,
-                                       size_t words_len, uint8_t *out, size_t out_len);
-
 /* ---- DAB: Fast Information Blocks ---- */
 
 /*
@@ -445,14 +438,6 @@ struct alertc_fib_reading {
 struct alertc_fib_reading alertc_fib_read(const uint8_t *bytes, size_t bytes_len,
                                           uint64_t *words, size_t words_len,
                                           uint8_t *origins, size_t origins_len);
-
-/*
- * Writes a block, ALERTC_FIB_BYTES bytes, with these FIGs of whatever types, or with none. After
- * fewer than ALERTC_FIB_DATA_BYTES bytes of FIGs come the end marker and zeros. Refused: bytes that
- * are not whole FIGs, or more than fit (9), less room than ALERTC_FIB_BYTES (15).
- */
-struct alertc_written alertc_fib_write(const uint8_t *figs, size_t figs_len,
-                                       uint8_t *out, size_t out_len);
 
 /* ---- DRM ---- */
 

@@ -9,6 +9,11 @@ pub passed : (t : Bool) (n later : ℕ) → must t (suc n) later ≡ 0 → (t �
 passed true n later e = (refl, e)
 passed false n later e = absurd (omega arith)
 
+-- a check refuses, or the later ones say
+pub by-check : (P : ℕ → Type 0) (t : Bool) (n later : ℕ) → (t ≡ false → P n) → P later → P (must t n later)
+by-check P true n later fails passes = passes
+by-check P false n later fails passes = fails refl
+
 -- the first refusal of two
 pub second : (n m : ℕ) → n ≡ 0 → firstOf n m ≡ m
 unfolding firstOf

@@ -2,11 +2,11 @@
 use Prim.Native.Nat.{ℕ, zero, suc, _+_, _*_, _^_, _<_, _≤_}
 use native.Mathlib.Nat.{suc-mul, zero-mul, add-comm}
 use native.Mathlib.Omega.{arith}
-use mathlib.Core.Path.{_≡_, refl, sym, ap, ap₂, subst, _∙_}
+use mathlib.Core.Path.{_≡_, refl, sym, ap, ap₂, _∙_}
 use mathlib.Core.Bool.{Bool}
 use mathlib.Core.List.{List, [], _∷_, _++_, append-assoc, append-nil}
 use lib.ListN.{length, take, drop, getD, length-append, take-append-drop, length-drop}
-use lib.Seq.{take-at, drop-at, drop-nil, take-nil, drop-drop, length-take-le, take-append-add, drop-append-add}
+use lib.Seq.{take-at, drop-at, drop-drop, length-take-le}
 use Rattle.bits.specs.Bits.{bits, val}
 use Rattle.bits.specs.Fields.{flat, words}
 use Rattle.bits.proofs.Value.{length-bits, val-bits-lt, bits-val}
@@ -56,7 +56,7 @@ words-front w (x ∷ xs) l h =
     ∙ ap (words w (length xs)) (drop-at (bits w x) rest w (length-bits w x))
     ∙ words-front w xs l (λ i. h (suc i)))
 
-pub words-flat : (w : ℕ) (xs : List ℕ) → ((i : ℕ) → getD xs i 0 < 2 ^ w) → words w (length xs) (flat w xs) ≡ xs
+words-flat : (w : ℕ) (xs : List ℕ) → ((i : ℕ) → getD xs i 0 < 2 ^ w) → words w (length xs) (flat w xs) ≡ xs
 words-flat w xs h = ap (words w (length xs)) (sym (append-nil (flat w xs))) ∙ words-front w xs [] h
 
 -- bits come back if there are n numbers of them

@@ -6,9 +6,7 @@ ghost use Rattle.rds.specs.Read.{readGroup};
 ghost use Rattle.rds.specs.Write.{writeGroup, bufferAfter, refusalIn};
 ghost use Rattle.fig.specs.Format.{headerLength};
 ghost use Rattle.fig.specs.Read.{readFig, wordsAfter as figWords};
-ghost use Rattle.fig_write.specs.Write.{writeFig, bytesAfter as figBytes};
 ghost use Rattle.fib.specs.Read.{readBlock, readWords, roomIn, wordsAfter as blockWords, originsAfter};
-ghost use Rattle.fib_write.specs.Write.{writeBlock, bytesAfter as blockBytes};
 ghost use Rattle.crc.specs.Register.{checkWord};
 ghost use Rattle.crc.specs.Block.{payload};
 ghost use Rattle.drm.specs.Read.{readUnit, wordsAfter as unitWords};
@@ -71,15 +69,6 @@ pub extern "C" fn alertc_fig_read(bytes: &[u8], words: &mut [u64]) -> FigReading
     FigReading::of(Fig::read(bytes, words))
 }
 
-// Writes a FIG with these words. A field or word out of its range, no words or too many are refused (9), then too small a buffer (15).
-#[no_mangle]
-pub extern "C" fn alertc_fig_write(fig: Fig, words: &[u64], out: &mut [u8]) -> Written
-    ensures { λ r. ⌜ r ≡ writtenBy (writeFig fig (now (words .entry)) (length (now (out .entry)))) ⌝ }
-    ensures { λ _. ⌜ now (out .exit) ≡ figBytes (writeFig fig (now (words .entry)) (length (now (out .entry)))) fig (now (words .entry)) (now (out .entry)) ⌝ }
-{
-    Written::of(fig_write::write(fig, words, out))
-}
-
 // Reads a block, the words of its FIGs 5/1 into the lent ones, and D1 and TCId of each word's FIG into the lent origins.
 #[no_mangle]
 pub extern "C" fn alertc_fib_read(bytes: &[u8], words: &mut [u64], origins: &mut [u8]) -> FibReading
@@ -88,15 +77,6 @@ pub extern "C" fn alertc_fib_read(bytes: &[u8], words: &mut [u64], origins: &mut
     ensures { λ _. ⌜ now (origins .exit) ≡ originsAfter (readWords (now (bytes .entry)) (roomIn (now (words .entry)) (now (origins .entry)))) (now (origins .entry)) ⌝ }
 {
     FibReading::of(Fib::read(bytes, words, origins))
-}
-
-// Packs FIGs into a block. Bytes that are not whole FIGs or are too many are refused (9), then too small a buffer (15).
-#[no_mangle]
-pub extern "C" fn alertc_fib_write(figs: &[u8], out: &mut [u8]) -> Written
-    ensures { λ r. ⌜ r ≡ writtenBy (writeBlock (now (figs .entry)) (length (now (out .entry)))) ⌝ }
-    ensures { λ _. ⌜ now (out .exit) ≡ blockBytes (writeBlock (now (figs .entry)) (length (now (out .entry)))) (now (figs .entry)) (now (out .entry)) ⌝ }
-{
-    Written::of(fib_write::write(figs, out))
 }
 
 // Reads a data unit, and its words into the lent ones.

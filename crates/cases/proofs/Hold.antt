@@ -4,12 +4,11 @@ use mathlib.Core.Path.{_≡_, refl, sym, ap, _∙_}
 use mathlib.Core.List.{List}
 use lib.ListN.{length}
 use Rattle.bits.specs.Bits.{bit, num, bits, val, allZero}
-use Rattle.bits.specs.Fields.{flat, words, unpack, pack, fits}
+use Rattle.bits.specs.Fields.{flat, words, unpack}
 use Rattle.bits.specs.Checks.{firstOf, unless}
 use Rattle.assembler.proofs.Examples.{computing}
-use Rattle.fig.specs.Format.{wordWidth, mostWords}
+use Rattle.fig.specs.Format.{wordWidth}
 use Rattle.fig.specs.Read.{fieldRefusal, headRefusal, dataRefusal, readData, readFig, wordsAfter}
-use Rattle.fig_write.specs.Write.{allBelow, figFits, figBytes, writeFig, bytesAfter}
 use Rattle.system.specs.Read.{systemOf, systemBy}
 use Rattle.crc.specs.Register.{shifted, entered, checkWord}
 use Rattle.crc.specs.Block.{isChecked}
@@ -30,5 +29,5 @@ by-length : (s : List ℕ) (room n : ℕ) (u : DataUnit) → readUnit s room ≡
 by-length s room n u e z m h = sym (bare-count s room n u e z .0) ∙ ap (λ (k : ℕ). ((k - 2) * 8 - 6) / 37) h
 
 pub all-hold : AllHold cases
-unfolding computing bit num bits val allZero flat words unpack pack fits allBelow wordWidth mostWords figFits figBytes writeFig bytesAfter fieldRefusal headRefusal dataRefusal readData readFig wordsAfter systemOf systemBy shifted entered checkWord isChecked ltoOf uaFlag aid headerBits wordsAt unitOf firstOf unit.fieldRefusal wordsRefusal payloadRefusal unitRefusal unless taken readUnit localOf toMidnight expiryOf offsetFits expiryAnswer cases
-all-hold = (refl, (refl, (refl, (refl, (refl, (refl, (refl, (refl, (refl, (refl, (refl, (refl, (refl, (refl, (refl, (refl, (λ s room n u e z h. by-length s room n u e z 8 h, (λ s room n u e h. not-nine s room n u e h, (λ s room n u e z h. by-length s room n u e z 128 h, (refl, (refl, (refl, tt))))))))))))))))))))))
+unfolding computing bit num bits val allZero flat words unpack wordWidth fieldRefusal headRefusal dataRefusal readData readFig wordsAfter systemOf systemBy shifted entered checkWord isChecked ltoOf uaFlag aid headerBits wordsAt unitOf firstOf unit.fieldRefusal wordsRefusal payloadRefusal unitRefusal unless taken readUnit localOf toMidnight expiryOf offsetFits expiryAnswer cases
+all-hold = (refl, (refl, (refl, (refl, (refl, (refl, (refl, (refl, (refl, (refl, (refl, (refl, (refl, (refl, (λ s room n u e z h. by-length s room n u e z 8 h, (λ s room n u e h. not-nine s room n u e h, (λ s room n u e z h. by-length s room n u e z 128 h, (refl, (refl, (refl, tt))))))))))))))))))))

@@ -1,4 +1,3 @@
 pub mod Hold
 pub mod InterRoad
 pub mod Fibs
-pub mod PackedFibs

@@ -1,4 +1,5 @@
--- The cases that document 01 marks P under "Worked words", numbered by its lines. A new case is a new line of this list.
+-- The cases that document 01 marks P under "Worked words", numbered by its lines; the FIG of line 3 is a case of reading (document 02, R-7).
+-- A new case is a new line of this list.
 use Prim.Native.Nat.{ℕ}
 use mathlib.Core.Path.{_≡_}
 use mathlib.Core.Bool.{true, false}
@@ -19,8 +20,6 @@ use Rattle.assembler.specs.Samples.{opened401}
 use Rattle.fig.specs.declared.Reading.the-variants as fig
 use Rattle.fig.specs.Format.{headerLength}
 use Rattle.fig.specs.Read.{readFig, wordsAfter}
-use Rattle.bits.specs.declared.Writing.the-variants as fig_write
-use Rattle.fig_write.specs.Write.{writeFig, bytesAfter}
 use Rattle.system.specs.declared.System.the-variants.{Table}
 use Rattle.system.specs.declared.Reading.the-variants as system
 use Rattle.system.specs.Read.{systemOf}
@@ -37,8 +36,6 @@ unfoldable pub cases : List Case
 cases =
     case 1 (calls readReport Empty (single101 ∷ [])) (withReport report101 ∷ [])
     ∷ case 2 (calls readReport Empty (first401 ∷ later401 ∷ [])) (withoutReport opened401 Nothing ∷ withReport report401 ∷ [])
-    ∷ case 3 (writeFig fig1 (first401 ∷ later401 ∷ []) 12) (fig_write.Written 12)
-    ∷ case 3 (bytesAfter (writeFig fig1 (first401 ∷ later401 ∷ []) 12) fig1 (first401 ∷ later401 ∷ []) (replicate 12 0)) pairFig
     ∷ case 3 (readFig pairFig 2) (fig.Taken fig1 2)
     ∷ case 3 (wordsAfter (readFig pairFig 2) (drop headerLength pairFig) (replicate 2 0)) (first401 ∷ later401 ∷ [])
     ∷ case 4 (calls readReport Empty (later401 ∷ [])) (withoutReport Empty (Refused 5) ∷ [])

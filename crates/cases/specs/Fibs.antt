@@ -16,7 +16,7 @@ record Given : Type 0 where
   origins : List ℕ
 
 -- cells before a call
-abbrev pub cells : ℕ → List ℕ
+abbrev cells : ℕ → List ℕ
 cells n = replicate n 7
 
 -- a block read into so many cells for words, and so many for origins
@@ -26,15 +26,15 @@ given s words origins =
     record { answer = readBlock s (roomIn (cells words) (cells origins)); words = wordsAfter cs (cells words); origins = originsAfter cs (cells origins) }
 
 -- no FIGs
-abbrev pub idle : List ℕ
+abbrev idle : List ℕ
 idle = 0xFF ∷ replicate 29 0x00 ++ 0xA8 ∷ 0xA8 ∷ []
 
 -- the FIG of the worked pair
-abbrev pub pair : List ℕ
+abbrev pair : List ℕ
 pair = pairFig ++ 0xFF ∷ replicate 17 0x00 ++ 0x2C ∷ 0xA6 ∷ []
 
 -- twice, with a FIG of type 0 between, in 30 bytes without a marker
-abbrev pub around : List ℕ
+abbrev around : List ℕ
 around = pairFig ++ 0x05 ∷ 0x00 ∷ 0x00 ∷ 0x00 ∷ 0x00 ∷ 0x01 ∷ pairFig ++ 0x65 ∷ 0x91 ∷ []
 
 -- the pair, a FIG 5/2, and a FIG 5/1 of TCId 1 with the system word 0x0466

@@ -3,4 +3,3 @@ pub mod Samples
 pub mod Cases
 pub mod InterRoad
 pub mod Fibs
-pub mod PackedFibs

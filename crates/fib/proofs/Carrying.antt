@@ -23,7 +23,7 @@ use Rattle.fib.specs.Read.{originOf, roomIn, cellsAfter, wordsAfter, ori
 use Rattle.fib.specs.Parts.{partOf, given}
 
 module _ (fig : Fig) where
-  pub length-carried : (ws : List ℕ) → length (carriedBy fig ws) ≡ length ws
+  length-carried : (ws : List ℕ) → length (carriedBy fig ws) ≡ length ws
   length-carried [] = refl
   length-carried (w ∷ ws) = ap suc (length-carried ws)
 

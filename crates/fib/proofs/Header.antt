@@ -17,12 +17,12 @@ use Rattle.fib.specs.Figs.{ended, lengthSaid, firstLength}
 use Rattle.fib.specs.Structure.{IsFig}
 
 -- the count is the five low bits
-pub said : (b : ℕ) (s : List ℕ) → lengthSaid (b ∷ s) ≡ 1 + b % 32
+said : (b : ℕ) (s : List ℕ) → lengthSaid (b ∷ s) ≡ 1 + b % 32
 unfolding bits flat unpack
 said b s = ap (λ (n : ℕ). 1 + n) (val-bits 5 b)
 
 -- the three ways of a first FIG: none begins, it runs past the end, or it is whole
-pub none-begins : (s : List ℕ) → ended s ≡ true → firstLength s ≡ 0
+none-begins : (s : List ℕ) → ended s ≡ true → firstLength s ≡ 0
 unfolding firstLength
 none-begins s e = chosen _ _ _ e
 

@@ -1,23 +1,24 @@
 -- The numbers of the refusals: a block is refused by 1 or 4, and leaves the buffers; one of its FIGs 5/1 by 1, 3 or 15, and then by 1 only
 -- for the length of its data, and by 15 only for want of room.
-use Prim.Native.Nat.{ℕ, zero, suc, _+_, _-_, _≤_}
+use Prim.Native.Nat.{ℕ, _+_, _-_, _≤_}
 use native.Mathlib.Omega.{arith}
 use mathlib.Core.Path.{_≡_, refl, sym, ap, ap₂, subst, _∙_}
 use mathlib.Core.Logic.{_⊎_, inl, inr}
-use mathlib.Core.Bool.{Bool, true, false, _&&_}
+use mathlib.Core.Bool.{Bool, true, _&&_}
 use mathlib.Core.List.{List}
 use lib.ListN.{length, drop}
 use lib.Dec.{leb, eqb}
 use borrow.Author.Tests.{leb-false, le-leb, eq-eqb}
 use Rattle.bits.specs.Bits.{allZero}
 use Rattle.bits.specs.Lists.{joined}
-use Rattle.bits.specs.Checks.{must, unless}
+use Rattle.bits.specs.Checks.{must}
 use Rattle.bits.proofs.Choice.{and-left, and-right, chosen}
+use Rattle.bits.proofs.Checks.{by-check}
 use Rattle.crc.specs.Block.{payload, isChecked}
-use Rattle.fig.specs.declared.Reading.{Reading}
 use Rattle.fig.specs.declared.Reading.the-variants.{Taken, Refused}
 use Rattle.fig.specs.Format.{typeIn, followingIn, d2In, extensionIn}
 use Rattle.fig.specs.Read.{fields, figOf, padding, lengthFits, fieldRefusal, headRefusal, dataRefusal, readData, readFig}
+use Rattle.fig.proofs.Answers.{by-refusal}
 use Rattle.fib.specs.declared.Fib.{Fib}
 use Rattle.fib.specs.declared.Reading.the-variants as block
 use Rattle.fib.specs.Figs.{ended, rest}
@@ -31,18 +32,6 @@ use Rattle.fib.proofs.Blocks.{cells-kept}
 use Rattle.fib.proofs.Within.{fig-among, joined-among, figs-short}
 use Rattle.fib.proofs.Answers.{stopped-walk, refused-checks}
 use Rattle.fib.proofs.Each.{stopped-by}
-
--- a check refuses, or the later ones say
-by-check : (P : ℕ → Type 0) (t : Bool) (n later : ℕ) → (t ≡ false → P n) → P later → P (must t n later)
-by-check P true n later fails passes = passes
-by-check P false n later fails passes = fails refl
-
--- an answer that is a refusal: the checks refuse, or what is answered where they pass
-by-refusal : (P : ℕ → Type 0) (m n : ℕ) (r : Reading) → (m ≡ 0) ⊎ P m → (r ≡ Refused n → P n) → unless Refused m r ≡ Refused n → P n
-unfolding unless
-by-refusal P zero n r h k e = k e
-by-refusal P (suc m) n r (inl z) k e = absurd (omega arith)
-by-refusal P (suc m) n r (inr p) k e = let same : suc m ≡ n = cc in subst P same p
 
 module _ (f : List ℕ) (room : ℕ) where
   abbrev OrNone : ℕ → Type 0
@@ -75,7 +64,7 @@ module _ (f : List ℕ) (room : ℕ) where
     unfolding readFig readData
     fig-why n e =
         by-refusal (Why f room) (headRefusal f) n (readData (figOf (fields f)) (drop 2 f) room) head-why
-        (by-refusal (Why f room) (dataRefusal (wordBits f) (drop 2 f) room) n (Taken (figOf (fields f)) (wordCount f)) data-why (λ k. let z : _≡_ {A = ℕ} 0 1 = cc in absurd (omega arith)))
+        (λ _. by-refusal (Why f room) (dataRefusal (wordBits f) (drop 2 f) room) n (Taken (figOf (fields f)) (wordCount f)) data-why (λ _ k. let z : _≡_ {A = ℕ} 0 1 = cc in absurd (omega arith)))
         e
 
 -- the checks of a whole block

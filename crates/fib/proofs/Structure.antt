@@ -82,7 +82,7 @@ no-fig : (f : List ℕ) → IsFig f → length f ≡ 0 → ⊥
 no-fig f fig z = omega (arith, fig .counts)
 
 -- FIGs followed by what begins with none are found again
-pub figs-back : (fs : List (List ℕ)) (r : List ℕ) → AllFigs fs → firstLength r ≡ 0 → figs (joined fs ++ r) ≡ fs
+figs-back : (fs : List (List ℕ)) (r : List ℕ) → AllFigs fs → firstLength r ≡ 0 → figs (joined fs ++ r) ≡ fs
 unfolding joined
 figs-back [] r none e = figs-none r e
 figs-back (f ∷ fs) r (more fig figs′) e =

@@ -3,12 +3,9 @@
 use Prim.Native.Nat.{ℕ}
 use Rattle.fib.specs.declared.Fib.{Fib}
 
--- the bytes of a block, and of its data field
+-- the bytes of a block
 abbrev pub blockLength : ℕ
 blockLength = 32
-
-abbrev pub dataLength : ℕ
-dataLength = 30
 
 -- the most words that its FIGs carry: 14 of 16 bits, in one FIG (source 000, clause 5.2)
 abbrev pub mostWords : ℕ

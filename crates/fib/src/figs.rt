@@ -6,7 +6,7 @@ ghost use Rattle.fib.specs.Figs.{firstLength, figs};
 use crate::Fib;
 
 // The bytes that the whole FIGs at the front of some bytes take together.
-pub fn figs_length(s: &[u8]) -> usize
+pub(crate) fn figs_length(s: &[u8]) -> usize
     ensures { λ r. ⌜ r ≡ length (joined (figs (now (s .entry)))) ⌝ }
 {
     let mut at = 0;

@@ -3,7 +3,7 @@ ghost use mathlib.Core.Path.{_≡_};
 ghost use Rattle.fib.specs.Format.{unread};
 use crc::block::CHECK_LENGTH;
 
-pub mod figs;
+mod figs;
 mod read;
 
 // How far a block was read: how many words, and the byte at which the next FIG begins.

@@ -2,6 +2,7 @@
 use Prim.Native.Nat.{ℕ, zero, suc, _+_, _-_, _*_, _≤_, _<_}
 use native.Mathlib.Omega.{arith}
 use mathlib.Core.Path.{_≡_, refl, sym, ap, subst, _∙_}
+use mathlib.Core.Logic.{_⊎_, inl, inr}
 use mathlib.Core.List.{List, _++_}
 use lib.ListN.{length, take, drop, length-drop}
 use lib.Seq.{take-all}
@@ -15,7 +16,7 @@ use Rattle.fig.specs.declared.Reading.the-variants.{Taken, Refused}
 use Rattle.fig.specs.Format.{wordWidth}
 use Rattle.fig.specs.Read.{fields, figOf, countOf, headRefusal, dataRefusal, readData, readFig, wordsAfter}
 use Rattle.fig.proofs.Header.{length-fits}
-use Rattle.fig.proofs.Data.{room as data-room, any-room, two-bytes}
+use Rattle.fig.proofs.Data.{some-word, room as data-room, any-room, two-bytes}
 
 -- w is the width that the code has found
 module _ (fig : Fig) (bytes out : List ℕ) (w : ℕ) (e : w ≡ wordWidth (fig .d1)) where
@@ -45,6 +46,13 @@ unfolding unless
 unless-taken zero n fig r e = (refl, e)
 unless-taken (suc m) n fig r e = let z : _≡_ {A = ℕ} 0 1 = cc in absurd (omega arith)
 
+-- one that is: the checks refuse, or what is answered where they pass
+pub by-refusal : (P : ℕ → Type 0) (m n : ℕ) (r : Reading) → (m ≡ 0) ⊎ P m → (m ≡ 0 → r ≡ Refused n → P n) → unless Refused m r ≡ Refused n → P n
+unfolding unless
+by-refusal P zero n r h k e = k refl e
+by-refusal P (suc m) n r (inl z) k e = absurd (omega arith)
+by-refusal P (suc m) n r (inr p) k e = let same : suc m ≡ n = cc in subst P same p
+
 -- a FIG that is read: its header and its data pass, and it says what its fields say
 module _ (s : List ℕ) (room n : ℕ) (fig : Fig) (e : readFig s room ≡ Taken fig n) where
   abbrev width : ℕ
@@ -66,6 +74,10 @@ module _ (s : List ℕ) (room n : ℕ) (fig : Fig) (e : readFig s room ≡ Taken
 
   pub taken-count : n ≡ countOf width (drop 2 s)
   taken-count = let h = data-parts .1 in cc
+
+  -- a word or more
+  pub taken-some : 1 ≤ n
+  taken-some = omega (arith, taken-count, some-word width (drop 2 s) room (data-parts .0))
 
   pub taken-room : n ≤ room
   taken-room = omega (arith, taken-count, data-room width (drop 2 s) room (data-parts .0))

@@ -13,7 +13,7 @@ use Rattle.bits.specs.Bits.{allZero}
 use Rattle.bits.specs.Fields.{flat}
 use Rattle.bits.specs.Overlay.{stretch}
 use Rattle.bits.specs.Checks.{must}
-use Rattle.bits.proofs.Choice.{chosen}
+use Rattle.bits.proofs.Choice.{chosen, and-left}
 use Rattle.bits.proofs.Fields.{length-flat}
 use Rattle.fig.specs.Format.{wordWidth}
 use Rattle.fig.specs.Read.{countOf, padding, lengthFits, dataRefusal}
@@ -24,7 +24,7 @@ module _ (w : ℕ) (bytes : List ℕ) where
   pub all-bits : countOf w bytes * w + length bytes * 8 % w ≡ length bytes * 8
   all-bits = div-add-mod' (length bytes * 8) w
 
-  pub padding-length : length (padding w bytes) ≡ length bytes * 8 % w
+  padding-length : length (padding w bytes) ≡ length bytes * 8 % w
   padding-length = omega (arith, length-drop (countOf w bytes * w) (flat 8 bytes), length-flat 8 bytes, div-add-mod' (length bytes * 8) w)
 
   -- the padding is the last bits
@@ -40,12 +40,19 @@ module _ (w : ℕ) (bytes : List ℕ) where
   unfolding dataRefusal
   checks room = ap (λ (l : List Bool). must (lengthFits w (length bytes)) 1 (must (allZero l) 3 (must (leb (countOf w bytes) room) 15 0))) (sym padding-stretch)
 
--- data that is not refused has room
+-- data that is not refused has a word
+pub some-word : (w : ℕ) (bytes : List ℕ) (n : ℕ) → dataRefusal w bytes n ≡ 0 → 1 ≤ countOf w bytes
+unfolding dataRefusal
+some-word w bytes n e =
+    leb-true 1 (countOf w bytes)
+    (and-left (leb 1 (countOf w bytes)) (leb (length bytes * 8 % w) 7) (three (lengthFits w (length bytes)) (allZero (padding w bytes)) (leb (countOf w bytes) n) e .0))
+
+-- and room
 pub room : (w : ℕ) (bytes : List ℕ) (n : ℕ) → dataRefusal w bytes n ≡ 0 → countOf w bytes ≤ n
 unfolding dataRefusal
 room w bytes n e = leb-true (countOf w bytes) n (three (lengthFits w (length bytes)) (allZero (padding w bytes)) (leb (countOf w bytes) n) e .2)
 
--- and is not refused with any other room for its words
+-- and it is not refused with any other room for its words
 pub any-room : (w : ℕ) (bytes : List ℕ) (n m : ℕ) → dataRefusal w bytes n ≡ 0 → countOf w bytes ≤ m → dataRefusal w bytes m ≡ 0
 unfolding dataRefusal
 any-room w bytes n m e h =

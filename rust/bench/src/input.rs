@@ -4,16 +4,15 @@ use std::ops::Range;
 
 use proved::{DrmUnit, Fig, Head, Item, RdsGroup, Report};
 use second::recording::{self, Frame};
+use sender::blocks::{self, SentFig, MARKER};
+use sender::FIG_WORDS;
 
 /// The most words of a message.
 pub const MESSAGE_WORDS: usize = 5;
-/// The most bytes and words of a FIG.
-pub const FIG_BYTES: usize = 30;
-pub const FIG_WORDS: usize = 6;
 /// The most words of any FIG, those of 16 bits included.
 pub const FIG_SYSTEM_WORDS: usize = 14;
 /// Bytes of a block.
-pub const FIB_BYTES: usize = 32;
+const FIB_BYTES: usize = 32;
 /// The words of the two FIGs of a block.
 const FIB_FIGS: [usize; 2] = [3, 2];
 /// The most bytes and words of a data unit.
@@ -152,36 +151,21 @@ pub fn groups(words: &[u64]) -> Vec<Vec<u8>> {
     words.iter().map(group).collect()
 }
 
-pub const FIG: Fig = Fig { d1: 0, tcid: 1 };
-
-/// The FIG of these words.
-fn fig(words: &[u64]) -> Vec<u8> {
-    let mut out = vec![0; FIG_BYTES];
-    let written = calls::fig_write(FIG, words, &mut out);
-    assert_eq!(written.refusal, 0);
-    out.truncate(written.count);
-    out
-}
+const FIG: Fig = Fig { d1: 0, tcid: 1 };
 
 pub fn figs(words: &[u64]) -> Vec<Vec<u8>> {
+    let fig = |words: &[u64]| sender::fig(FIG, words);
     words.chunks_exact(FIG_WORDS).map(fig).collect()
 }
 
-/// Two FIGs for each block, as many words as fit into it.
-pub fn pairs_of_figs(words: &[u64]) -> Vec<Vec<u8>> {
+/// Blocks of two FIGs, with as many words as fit.
+pub fn fibs(words: &[u64]) -> Vec<Vec<u8>> {
     let [first, second] = FIB_FIGS;
-    let pair = |words: &[u64]| [fig(&words[..first]), fig(&words[first..])].concat();
-    words.chunks_exact(first + second).map(pair).collect()
-}
-
-/// Blocks of FIGs.
-pub fn fibs(figs: &[Vec<u8>]) -> Vec<Vec<u8>> {
-    let fib = |figs: &Vec<u8>| {
-        let mut out = vec![0; FIB_BYTES];
-        assert_eq!(calls::fib_write(figs, &mut out).refusal, 0);
-        out
+    let fib = |words: &[u64]| {
+        let figs = [&words[..first], &words[first..]].map(|words| SentFig::words(FIG, words));
+        blocks::block(&figs, &[MARKER])
     };
-    figs.iter().map(fib).collect()
+    words.chunks_exact(first + second).map(fib).collect()
 }
 
 pub const UNIT: DrmUnit = DrmUnit {

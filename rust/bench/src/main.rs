@@ -9,7 +9,7 @@ use std::io;
 use std::path::{Path, PathBuf};
 use std::process::ExitCode;
 
-use input::{FIG, UNIT};
+use input::UNIT;
 use proved::{Assembler, AssemblerAnswer, RdsReceived, RdsRun, SystemFields, WordFields};
 use timing::{both, measure};
 
@@ -63,14 +63,8 @@ fn bench_carriers(words: &[u64]) {
             (side::fig_read(fig, &mut words), words)
         });
     }
-    let sixes = words.as_chunks::<{ input::FIG_WORDS }>().0;
-    both!("FIG of 6 words written", sixes, |words| {
-        let mut out = [0; input::FIG_BYTES];
-        (side::fig_write(FIG, words, &mut out), out)
-    });
 
-    let pairs = input::pairs_of_figs(words);
-    let fibs = input::fibs(&pairs);
+    let fibs = input::fibs(words);
     let rough = input::rough(&fibs, &input::FIB_FAULTS);
     for (what, fibs) in [
         ("FIB of two FIGs", fibs),
@@ -83,10 +77,6 @@ fn bench_carriers(words: &[u64]) {
             (reading, words, origins)
         });
     }
-    both!("FIB of two FIGs written", &pairs, |figs| {
-        let mut out = [0; input::FIB_BYTES];
-        (side::fib_write(figs, &mut out), out)
-    });
 
     let unit_words = input::unit_words(2000);
     let units = input::units(&unit_words);

@@ -18,7 +18,7 @@ use second::report::Report;
 use second::system::SystemWord;
 use second::table::{self, Arrival, Entry, Lists, Service, WhenFull};
 use second::word::{self, Head, Word};
-use second::{fib, fib_write, Refusal};
+use second::{fib, Refusal};
 
 pub use second::crc::crc as check_word;
 
@@ -404,13 +404,6 @@ pub fn fig_read(bytes: &[u8], words: &mut [u64]) -> FigReading {
     }
 }
 
-pub fn fig_write(fig: proved::Fig, words: &[u64], out: &mut [u8]) -> Written {
-    let tcid = fig.tcid;
-    let (count, refusal) =
-        split(flag(fig.d1).and_then(|system| Fig { system, tcid }.write(words, out)));
-    Written { count, refusal }
-}
-
 pub fn fib_read(bytes: &[u8], words: &mut [u64], origins: &mut [u8]) -> FibReading {
     let read = fib::read(bytes, words, origins).map(|reading| {
         let refused = reading.refused;
@@ -423,11 +416,6 @@ pub fn fib_read(bytes: &[u8], words: &mut [u64], origins: &mut [u8]) -> FibReadi
     });
     let (reading, refusal) = split(read);
     FibReading { refusal, ..reading }
-}
-
-pub fn fib_write(figs: &[u8], out: &mut [u8]) -> Written {
-    let (count, refusal) = split(fib_write::write(figs, out));
-    Written { count, refusal }
 }
 
 pub fn drm_read(bytes: &[u8], words: &mut [u64]) -> DrmReading {

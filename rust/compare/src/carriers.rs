@@ -2,10 +2,10 @@
 
 use crate::fields::Fields;
 use crate::rds::BYTE;
-use crate::sender::{self, Message, HEADED_WORDS, UNIT_WORDS};
 use crate::tally::Call;
 use crate::Trial;
 use proved::{DrmReading, DrmUnit, Fig, FigReading, Written};
+use sender::{Message, HEADED_WORDS, UNIT_WORDS};
 
 /// What stands in a lent word before a call.
 pub const WORD: u64 = 0xA5A5_5A5A_0F0F_F0F0;
@@ -18,7 +18,7 @@ pub fn filled<T: Copy>(cells: &[T], entry: &[T]) -> Vec<T> {
 }
 
 /// What a writer of these bytes answers and leaves in what it was lent: 15 if they have no room.
-pub fn written(bytes: &[u8], mut lent: Vec<u8>) -> (Written, Vec<u8>) {
+fn written(bytes: &[u8], mut lent: Vec<u8>) -> (Written, Vec<u8>) {
     let mut written = Written {
         count: 0,
         refusal: 15,
@@ -56,12 +56,13 @@ impl Trial {
     }
 
     pub fn fig_read(&mut self) {
-        let (d1, mut words) = self.fig_words();
-        let tcid = self.random.byte(3);
-        let fig = Fig { d1, tcid };
-        let (most, _) = sender::fig_words(d1);
-        let count = words.len().clamp(1, most);
-        words.resize(count, 1);
+        let fig = Fig {
+            d1: self.random.byte(1),
+            tcid: self.random.byte(3),
+        };
+        let (most, width) = sender::fig_words(fig.d1);
+        let count = 1 + self.random.index(most);
+        let words: Vec<_> = (0..count).map(|_| self.random.bits(width as u32)).collect();
         let mut bytes = sender::fig(fig, &words);
         let whole = !self.random.once_in(2);
         if !whole {
@@ -137,59 +138,6 @@ impl Trial {
         }
         if self.random.once_in(3) && fig.len() > 1 {
             fig[0] = fig[0] & 0xE0 | (fig.len() - 1) as u8 & 31;
-        }
-    }
-
-    /// D1 and words of its width, now and then none or too many.
-    fn fig_words(&mut self) -> (u8, Vec<u64>) {
-        let d1 = self.random.byte(1);
-        let (most, width) = sender::fig_words(d1);
-        let count = match self.random.below(12) {
-            0 => 0,
-            1 => most + 1 + self.random.pick(&[0, 1, 20, 254]),
-            _ => 1 + self.random.index(most),
-        };
-        let words = (0..count).map(|_| self.random.bits(width as u32)).collect();
-        (d1, words)
-    }
-
-    pub fn fig_write(&mut self) {
-        let (d1, mut words) = self.fig_words();
-        let random = &mut self.random;
-        let mut fig = Fig {
-            d1,
-            tcid: random.byte(3),
-        };
-        if random.once_in(6) {
-            random.damage(fig.fields());
-        }
-        if random.once_in(4) && !words.is_empty() {
-            let at = random.index(words.len());
-            words[at] = random.odd(words[at], u64::BITS);
-        }
-        let room = if random.once_in(4) {
-            random.index(32)
-        } else {
-            32
-        };
-        let entry = vec![BYTE; room];
-        let (mut a, mut b) = (entry.clone(), entry.clone());
-        let proved = proved::fig_write(fig, &words, &mut a);
-        let second = calls::fig_write(fig, &words, &mut b);
-        let input = (fig, &words, room);
-        self.tally
-            .agree_lent(Call::FigWrite, &input, &entry, (proved, &a), (second, &b));
-        let (most, width) = sender::fig_words(fig.d1);
-        let fit = fig.d1 <= 1
-            && fig.tcid <= 7
-            && (1..=most).contains(&words.len())
-            && words.iter().all(|&word| word < 1 << width);
-        if fit {
-            let meant = written(&sender::fig(fig, &words), entry);
-            self.tally
-                .expect(Call::FigWrite, &input, (proved, a), meant);
-        } else {
-            self.tally.expect(Call::FigWrite, &input, proved.refusal, 9);
         }
     }
 

@@ -4,8 +4,9 @@ use std::collections::BTreeSet;
 use std::ops::Range;
 
 use proved::{Item, Report};
+use sender::ADDITIONAL_EVENT;
 
-use crate::sender::{self, ADDITIONAL_EVENT};
+use crate::stored::record_items;
 
 /// A set of classes.
 pub type Set = BTreeSet<u8>;
@@ -70,7 +71,7 @@ impl Classes {
 
     /// Of a used record, if its content reads as items.
     pub fn of_record(catalogue: &[u16], record: &[u8]) -> Option<Self> {
-        let items = sender::record_items(record)?;
+        let items = record_items(record)?;
         let event = u16::from_le_bytes([record[6], record[7]]);
         Some(Self::new(catalogue, event, &items))
     }

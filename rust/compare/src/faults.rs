@@ -3,10 +3,11 @@
 use std::collections::BTreeSet;
 
 use proved::RECORD_BYTES as RECORD;
+use sender::CONTENT_BITS;
 
 use crate::classes;
 use crate::records;
-use crate::sender::{self, CONTENT_BITS};
+use crate::stored;
 use crate::tally::Call;
 
 /// Why a call refuses what it was lent.
@@ -168,7 +169,7 @@ pub fn of_events(record: &[u8], catalogue: &[u16]) -> Faults {
     }
     let class = classes::class(catalogue, records::event_of(record));
     found([
-        (Fault::Content, sender::record_items(record).is_none()),
+        (Fault::Content, stored::record_items(record).is_none()),
         (Fault::Event, class.is_none()),
     ])
 }

@@ -1,12 +1,11 @@
-//! Fast information blocks, read.
+//! Fast information blocks.
 
-use crate::blocks::{self, Kind, Meant, SentFig, DATA_BYTES, MARKER, WORDS};
 use crate::carriers::{filled, WORD};
 use crate::rds::BYTE;
-use crate::sender;
 use crate::tally::Call;
 use crate::Trial;
 use proved::{FibReading, Fig};
+use sender::blocks::{self, Kind, Meant, SentFig, DATA_BYTES, MARKER, WORDS};
 
 /// The most cells of a row that is lent.
 const MOST_ROOM: usize = 16;
@@ -70,11 +69,17 @@ impl Trial {
         let passed = self.read_figs(&blocks::block(&figs, &end), rooms, &figs);
 
         let words = has_words(&figs[..passed]);
-        let full = blocks::bytes(&figs).len() == DATA_BYTES;
+        let length = blocks::bytes(&figs).len();
+        let full = length == DATA_BYTES;
         let inside = (0..passed)
             .any(|i| figs[i].bytes[1..].contains(&MARKER) && has_words(&figs[i + 1..passed]));
         let tally = &mut self.tally;
+        tally.mark("FIB read: no FIGs", figs.is_empty() && !zeros);
         tally.mark("FIB read: words of a full data field", words && full);
+        tally.mark(
+            "FIB read: words, a marker as the last byte",
+            words && length == DATA_BYTES - 1 && !zeros,
+        );
         tally.mark("FIB read: words, no marker", words && zeros && !full);
         tally.mark(
             "FIB read: words, rubbish after the marker",

@@ -1,8 +1,8 @@
 //! The fields of the interface's structs, to damage one of them.
 
-use crate::random::Number;
-use proved::{Assembler, DrmUnit, Fig, Head, Item, RdsGroup, RdsRun, Report, Service};
+use proved::{Assembler, DrmUnit, Head, Item, RdsGroup, RdsRun, Report, Service};
 use proved::{SystemFields, WordFields};
+use sender::random::Number;
 
 pub trait Fields {
     /// Each field as a number.
@@ -34,7 +34,6 @@ fields! {
     }
     RdsGroup { pi tp pty word }
     RdsRun { word count }
-    Fig { d1 tcid }
     DrmUnit { tmchi short_id services country ecc lto system_count, system_words }
     Service { country ltn sid }
 }

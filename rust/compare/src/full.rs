@@ -6,7 +6,6 @@ use proved::{TableAnswer, Taking, DROP, KEEP};
 use crate::classes;
 use crate::lists::Lists;
 use crate::records::{self, expiry_of, service_of};
-use crate::sender;
 use crate::tables::LARGEST;
 use crate::takes;
 use crate::tally::Call;

@@ -5,10 +5,10 @@ use std::path::{Path, PathBuf};
 use std::process::{self, Command, Stdio};
 use std::{env, io};
 
-use crate::sender::{self, Message, FIG_WORDS, HEADED_WORDS, UNIT_WORDS};
 use crate::tally::{fail, Call};
 use crate::Trial;
 use proved::{DrmUnit, Fig};
+use sender::{Message, FIG_WORDS, HEADED_WORDS, UNIT_WORDS};
 
 /// More than the listing program reads at once.
 const BEYOND_BUFFER: usize = 150_000;

@@ -1,10 +1,10 @@
 //! RDS groups and the repeat rule.
 
 use crate::fields::Fields;
-use crate::sender::{self, WORD_LIMIT};
 use crate::tally::Call;
 use crate::Trial;
 use proved::{RdsGroup, RdsReading, RdsReceived, RdsRun};
+use sender::WORD_LIMIT;
 
 /// What stands in a lent byte before a call.
 pub const BYTE: u8 = 0xA5;

@@ -4,11 +4,12 @@ use std::ops::Range;
 
 use proved::RECORD_BYTES as RECORD;
 use proved::{Report, Service};
+use sender::random::Random;
+use sender::Message;
 
 use crate::classes::{self, Classes, STORED};
 use crate::lists::{Lists, CLASSES};
-use crate::random::Random;
-use crate::sender::{self, Location, Message};
+use crate::stored::Location;
 use crate::Trial;
 
 /// Few enough services and locations that records match.

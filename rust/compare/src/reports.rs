@@ -2,10 +2,10 @@
 
 use crate::carriers::{filled, WORD};
 use crate::fields::Fields;
-use crate::sender::{self, Message, CONTENT_BITS, WORD_LIMIT};
 use crate::tally::Call;
 use crate::Trial;
 use proved::{Assembler, AssemblerAnswer, Head, Item, Report, Written, ITEMS};
+use sender::{Message, CONTENT_BITS, WORD_LIMIT};
 
 /// Fields of a report beside its items.
 const BESIDE_ITEMS: usize = 9;

@@ -7,7 +7,7 @@ use proved::{ExpiryAnswer, Report, TableAnswer, TableReading, RECORD_BYTES as RE
 use crate::faults;
 use crate::lists::Lists;
 use crate::records::{self, at_home, location_of, service_of};
-use crate::sender::{self, Location};
+use crate::stored::{self, Location};
 use crate::tally::Call;
 use crate::Trial;
 
@@ -217,7 +217,7 @@ impl Trial {
         let fits = lto.unsigned_abs() <= 31 && minute <= LARGEST;
         // Now and then a midnight of the service.
         let minute = match random.below(4) {
-            0 if fits => sender::expiry(minute, lto, 0),
+            0 if fits => stored::expiry(minute, lto, 0),
             _ => minute,
         };
         let proved = proved::expiry(minute, lto, life);
@@ -226,7 +226,7 @@ impl Trial {
         self.tally.agree(Call::Expiry, &input, proved, second);
         if fits && minute <= LARGEST && life <= 10_080 {
             let meant = ExpiryAnswer {
-                minute: sender::expiry(minute, lto, life),
+                minute: stored::expiry(minute, lto, life),
                 refusal: 0,
             };
             self.tally.expect(Call::Expiry, &input, proved, meant);

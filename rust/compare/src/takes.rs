@@ -4,6 +4,7 @@ use std::fmt::Debug;
 
 use proved::RECORD_BYTES as RECORD;
 use proved::{Head, Report, Service, TableAnswer, TableReading, Taking, DROP, KEEP};
+use sender::Message;
 
 use crate::classes::{self, Classes, Meeting, Set};
 use crate::faults::{self, Faults};
@@ -12,7 +13,7 @@ use crate::full;
 use crate::lists::Lists;
 use crate::records::{self, at_home, location_of, service_of};
 use crate::records::{COUNTRIES, LOCATIONS, NEAR_FLT, NUMBERS};
-use crate::sender::{self, Location, Message};
+use crate::stored::{self, Location};
 use crate::tally::Call;
 use crate::Trial;
 
@@ -77,7 +78,7 @@ fn meant_by(before: &[u8], taking: &Taking) -> Meant {
     let kind = entry >> 6 & 3;
     let duration_type = usize::from(entry >> 8 & 1);
     let life = taking.lives[8 * duration_type + usize::from(report.duration)];
-    let location = sender::location(&report, service);
+    let location = stored::location(&report, service);
     let classes = Classes::of_report(catalogue, &report);
     let mut meant = Meant {
         table: before.to_vec(),
@@ -129,8 +130,8 @@ fn meant_by(before: &[u8], taking: &Taking) -> Meant {
         };
     }
     let place = free.unwrap_or_else(|| full::soonest(table)[0]);
-    let expiry = sender::expiry(minute, lto, life);
-    let record = sender::record(&report, service, expiry, &classes.set());
+    let expiry = stored::expiry(minute, lto, life);
+    let record = stored::record(&report, service, expiry, &classes.set());
     table[place * RECORD..][..RECORD].copy_from_slice(&record);
     answer.stored = 1;
     answer.place = place;
@@ -324,7 +325,7 @@ impl Trial {
     fn expect_foreign(&mut self, input: &dyn Debug, taking: &Taking, refusal: u8) {
         let report = &taking.report;
         if matches!(refusal, 0 | 11 | 12 | 14) {
-            let location = sender::location(report, taking.service);
+            let location = stored::location(report, taking.service);
             let (foreign, meant) = (refusal == 12, sender::is_flt(location.code));
             self.tally.expect(Call::TableTake, input, foreign, meant);
         }
@@ -360,7 +361,7 @@ impl Trial {
             report, service, ..
         } = taking;
         let inter_road = sender::is_inter_road(&report);
-        let home = at_home(sender::location(&report, service), service);
+        let home = at_home(stored::location(&report, service), service);
         let (abroad, own) = (inter_road && !home, inter_road && home);
         let matched = answer.matched > 0;
         let tally = &mut self.tally;
@@ -511,9 +512,9 @@ impl Trial {
         let duration_type = usize::from(entry >> 8 & 1);
         let life = lists.lives[8 * duration_type + usize::from(report.duration)];
         let meant = TableReading {
-            report: sender::read_back(report, service),
+            report: stored::read_back(report, service),
             service,
-            expiry: sender::expiry(minute, lto, life),
+            expiry: stored::expiry(minute, lto, life),
             used: 1,
             refusal: 0,
         };

@@ -7,7 +7,7 @@ use std::process;
 use crate::faults::{Fault, Faults};
 
 /// The calls, each with the refusals that it can give.
-const CALLS: [(Call, &str, &[u8]); 24] = [
+const CALLS: [(Call, &str, &[u8]); 22] = [
     (Call::WordParse, "word parse", &[9]),
     (Call::WordCompose, "word compose", &[9]),
     (Call::SystemRead, "system read", &[2]),
@@ -18,9 +18,7 @@ const CALLS: [(Call, &str, &[u8]); 24] = [
     (Call::ReportWrite, "report write", &[9, 15]),
     (Call::AssemblerStep, "assembler step", &[5, 6, 7, 8, 9]),
     (Call::FigRead, "FIG read", &[1, 2, 3, 15]),
-    (Call::FigWrite, "FIG write", &[9, 15]),
     (Call::FibRead, "FIB read", &[1, 4]),
-    (Call::FibWrite, "FIB write", &[9, 15]),
     (Call::DrmRead, "DRM read", &[1, 2, 3, 4, 15]),
     (Call::DrmWrite, "DRM write", &[9, 15]),
     (Call::CheckWord, "check word", &[]),
@@ -46,9 +44,7 @@ pub enum Call {
     ReportWrite,
     AssemblerStep,
     FigRead,
-    FigWrite,
     FibRead,
-    FibWrite,
     DrmRead,
     DrmWrite,
     CheckWord,

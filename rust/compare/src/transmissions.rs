@@ -1,10 +1,10 @@
 //! Transmissions with losses (demand 3), as words alone and through each carrier.
 
-use crate::blocks::{self, SentFig, MARKER};
-use crate::sender::{self, Message, FIG_WORDS, UNIT_WORDS};
 use crate::tally::Call;
 use crate::Trial;
 use proved::{Assembler, DrmUnit, Fig, RdsRun};
+use sender::blocks::{self, SentFig, MARKER};
+use sender::{Message, FIG_WORDS, UNIT_WORDS};
 
 /// The most words of 37 bits in two FIGs of a block.
 const FIB_WORDS: usize = 5;

@@ -1,10 +1,10 @@
 //! 37-bit words and system words.
 
 use crate::fields::Fields;
-use crate::sender::{self, Message, WORD_LIMIT};
 use crate::tally::Call;
 use crate::Trial;
 use proved::{SystemFields, SystemReading, SystemWritten, WordComposed, WordFields, WordParsed};
+use sender::{Message, WORD_LIMIT};
 
 impl Trial {
     /// A word of any kind, now and then one of 2^37 or more.

@@ -30,13 +30,6 @@ mod c {
             words: *mut u64,
             words_len: usize,
         ) -> FigReading;
-        pub fn alertc_fig_write(
-            fig: Fig,
-            words: *const u64,
-            words_len: usize,
-            out: *mut u8,
-            out_len: usize,
-        ) -> Written;
         pub fn alertc_fib_read(
             bytes: *const u8,
             bytes_len: usize,
@@ -45,12 +38,6 @@ mod c {
             origins: *mut u8,
             origins_len: usize,
         ) -> FibReading;
-        pub fn alertc_fib_write(
-            figs: *const u8,
-            figs_len: usize,
-            out: *mut u8,
-            out_len: usize,
-        ) -> Written;
         pub fn alertc_drm_read(
             bytes: *const u8,
             bytes_len: usize,
@@ -140,18 +127,6 @@ pub fn fig_read(bytes: &[u8], words: &mut [u64]) -> FigReading {
     unsafe { c::alertc_fig_read(bytes.as_ptr(), bytes.len(), words.as_mut_ptr(), words.len()) }
 }
 
-pub fn fig_write(fig: Fig, words: &[u64], out: &mut [u8]) -> Written {
-    unsafe {
-        c::alertc_fig_write(
-            fig,
-            words.as_ptr(),
-            words.len(),
-            out.as_mut_ptr(),
-            out.len(),
-        )
-    }
-}
-
 pub fn fib_read(bytes: &[u8], words: &mut [u64], origins: &mut [u8]) -> FibReading {
     unsafe {
         c::alertc_fib_read(
@@ -163,10 +138,6 @@ pub fn fib_read(bytes: &[u8], words: &mut [u64], origins: &mut [u8]) -> FibReadi
             origins.len(),
         )
     }
-}
-
-pub fn fib_write(figs: &[u8], out: &mut [u8]) -> Written {
-    unsafe { c::alertc_fib_write(figs.as_ptr(), figs.len(), out.as_mut_ptr(), out.len()) }
 }
 
 pub fn drm_read(bytes: &[u8], words: &mut [u64]) -> DrmReading {

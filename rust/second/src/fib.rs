@@ -1,4 +1,4 @@
-//! The DAB fast information block (FIB), read: FIGs, an end marker, padding and a check word.
+//! The DAB fast information block (FIB): FIGs, an end marker, padding and a check word.
 
 use crate::crc::crc;
 use crate::fig::{self, Fig};
@@ -7,9 +7,9 @@ use crate::{require, Refusal};
 /// Bytes of a block.
 pub const BYTES: usize = 32;
 /// Bytes of its FIB data field, after which the check word stands.
-pub const DATA_BYTES: usize = 30;
+const DATA_BYTES: usize = 30;
 /// The end marker, which stands in the place of a FIG's header.
-pub const END_MARKER: u8 = 0xFF;
+const END_MARKER: u8 = 0xFF;
 
 /// What was read of a block.
 #[derive(Clone, Copy, Debug, PartialEq, Eq)]
@@ -87,7 +87,7 @@ impl<'a> Iterator for Figs<'a> {
 }
 
 #[cfg(test)]
-pub(crate) mod tests {
+mod tests {
     use super::*;
     use crate::fig::tests::{BYTES as P, WORDS};
 
@@ -108,19 +108,17 @@ pub(crate) mod tests {
         block
     }
 
-    /// FIGs, their block, and its words with their origins.
-    pub(crate) struct Computed {
-        pub(crate) figs: Vec<u8>,
-        pub(crate) block: [u8; BYTES],
+    /// A block, and its words with their origins.
+    struct Computed {
+        block: [u8; BYTES],
         words: Vec<u64>,
         origins: Vec<u8>,
     }
 
     /// The computed blocks of which every FIG 5/1 is read.
-    pub(crate) fn computed() -> [Computed; 5] {
-        let of = |figs: &[&[u8]], end: &[u8], check, words: &[&[u64]], origins: &[u8]| Computed {
-            figs: figs.concat(),
-            block: block(&[&figs.concat(), end], check),
+    fn computed() -> [Computed; 5] {
+        let of = |data: &[&[u8]], check, words: &[&[u64]], origins: &[u8]| Computed {
+            block: block(data, check),
             words: words.concat(),
             origins: origins.to_vec(),
         };
@@ -128,23 +126,16 @@ pub(crate) mod tests {
         let extension_2 = [0xA2, 0x0A, 0];
         let marker = [0xFF];
         [
-            of(&[], &marker, 0xA8A8, &[], &[]),
-            of(&[&P], &marker, 0x2CA6, &[&WORDS], &[1, 1]),
+            of(&[&marker], 0xA8A8, &[], &[]),
+            of(&[&P, &marker], 0x2CA6, &[&WORDS], &[1, 1]),
+            of(&[&P, &type_0, &P], 0x6591, &[&WORDS, &WORDS], &[1, 1, 1, 1]),
             of(
-                &[&P, &type_0, &P],
-                &[],
-                0x6591,
-                &[&WORDS, &WORDS],
-                &[1, 1, 1, 1],
-            ),
-            of(
-                &[&P, &extension_2, &SYSTEM],
-                &marker,
+                &[&P, &extension_2, &SYSTEM, &marker],
                 0x9BC4,
                 &[&WORDS, &[SYSTEM_WORD]],
                 &[1, 1, 9],
             ),
-            of(&[&P, &P], &marker, 0xC0A9, &[&WORDS, &WORDS], &[1, 1, 1, 1]),
+            of(&[&P, &P, &marker], 0xC0A9, &[&WORDS, &WORDS], &[1, 1, 1, 1]),
         ]
     }
 
@@ -175,7 +166,6 @@ pub(crate) mod tests {
             block,
             words,
             origins,
-            ..
         } in computed()
         {
             assert_eq!(reads(&block, (15, 16), &words, &origins), Ok(None));

@@ -1,6 +1,6 @@
 //! FIG 5/1: 37-bit or 16-bit words in the DAB fast information channel.
 
-use crate::bits::{Reader, Writer};
+use crate::bits::Reader;
 use crate::word;
 use crate::{require, Refusal};
 
@@ -10,8 +10,6 @@ pub const HEADER: usize = 2;
 pub const MOST_DATA: usize = 28;
 /// The most bytes of a FIG.
 pub const MOST_BYTES: usize = HEADER + MOST_DATA;
-/// The most words of 37 bits.
-pub const MOST_WORDS: usize = 6;
 /// The most words of 16 bits, and so of any FIG.
 pub const MOST_SYSTEM_WORDS: usize = 14;
 
@@ -86,31 +84,6 @@ impl Fig {
         }
         Ok((fig, words.len()))
     }
-
-    /// Writes a FIG of `words` and gives its length; refuses 9 a field or word out of its
-    /// range and no words or too many, 15 too small a buffer.
-    #[inline]
-    pub fn write(self, words: &[u64], out: &mut [u8]) -> Result<usize, Refusal> {
-        let most = if self.system {
-            MOST_SYSTEM_WORDS
-        } else {
-            MOST_WORDS
-        };
-        let fit = self.tcid <= 7
-            && (1..=most).contains(&words.len())
-            && words.iter().all(|&word| word < 1 << self.width());
-        require(fit, Refusal::Unfit)?;
-        let data = (words.len() * self.width() as usize).div_ceil(8);
-        let out = out.get_mut(..HEADER + data).ok_or(Refusal::Buffer)?;
-        out[0] = TYPE << 5 | (1 + data) as u8;
-        out[1] = u8::from(self.system) << 7 | self.tcid << 3 | EXTENSION;
-        let mut writer = Writer::new(&mut out[HEADER..]);
-        for &word in words {
-            writer.put(word, self.width());
-        }
-        writer.finish();
-        Ok(HEADER + data)
-    }
 }
 
 #[cfg(test)]
@@ -128,10 +101,6 @@ pub(crate) mod tests {
 
     #[test]
     fn worked_fig() {
-        let mut out = [0xAA; 14];
-        assert_eq!(FIG.write(&WORDS, &mut out), Ok(12));
-        assert_eq!(out[..12], BYTES);
-        assert_eq!(out[12..], [0xAA; 2]);
         let mut words = [1; 3];
         assert_eq!(Fig::read(&BYTES, &mut words), Ok((FIG, 2)));
         assert_eq!(words, [WORDS[0], WORDS[1], 1]);

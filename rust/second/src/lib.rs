@@ -14,7 +14,6 @@ pub mod content;
 pub mod crc;
 pub mod drm;
 pub mod fib;
-pub mod fib_write;
 pub mod fig;
 pub mod inter_road;
 pub mod rds;

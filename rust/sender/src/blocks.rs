@@ -1,7 +1,8 @@
 //! A plain sender of fast information blocks: FIGs of every kind, with what must be read of them.
 
+use crate::checked;
+use crate::figs::{fig, fig_start, fig_words, typed_fig};
 use crate::random::Random;
-use crate::sender::{checked, fig, fig_start, fig_words, typed_fig};
 use proved::{FibReading, Fig};
 
 /// Bytes of the data field.
@@ -177,15 +178,6 @@ pub fn figs_with_room(random: &mut Random) -> Vec<SentFig> {
     let mut figs = random_figs(random);
     if bytes(&figs).len() == DATA_BYTES {
         figs.pop();
-    }
-    figs
-}
-
-/// FIGs of every kind, more than fit into a data field.
-pub fn too_many_figs(random: &mut Random) -> Vec<SentFig> {
-    let mut figs = random_figs(random);
-    while bytes(&figs).len() <= DATA_BYTES {
-        figs.push(SentFig::random(random, DATA_BYTES + 1));
     }
     figs
 }

@@ -1,12 +1,23 @@
 //! A plain sender: every form is built as a string of bits, field by field, so that what a reader
 //! must answer is known without either program.
 
-use crate::classes::{self, Set};
-use crate::random::Random;
-use proved::{DrmUnit, Fig, Head, Item, RdsGroup, Report, Service, SystemFields, WordFields};
+#![deny(warnings)]
+
+use proved::{DrmUnit, Head, Item, RdsGroup, Report, SystemFields, WordFields};
+use random::Random;
+
+mod bits;
+pub mod blocks;
+mod check;
+mod figs;
+pub mod random;
+
+pub use bits::Bits;
+pub use check::{check_word, checked};
+pub use figs::{fig, fig_words, FIG_WORDS};
 
 /// Bits of the value after labels 0 to 14.
-const WIDTHS: [u32; 15] = [3, 3, 5, 5, 5, 8, 8, 8, 8, 11, 16, 16, 16, 16, 0];
+pub const WIDTHS: [u32; 15] = [3, 3, 5, 5, 5, 8, 8, 8, 8, 11, 16, 16, 16, 16, 0];
 /// The separator, an item without a value.
 const SEPARATOR: Item = Item {
     label: 14,
@@ -22,78 +33,10 @@ pub const CONTENT_BITS: usize = 112;
 const REAL_BITS: usize = 16;
 /// Words are below this.
 pub const WORD_LIMIT: u64 = 1 << 37;
-/// The most words of 37 bits in a FIG.
-pub const FIG_WORDS: usize = 6;
 /// The most words in a data unit: without a header, in 128 bytes.
 pub const UNIT_WORDS: usize = 27;
 /// With the shortest header there is room for so many.
 pub const HEADED_WORDS: usize = 25;
-
-/// A string of bits.
-#[derive(Clone, Debug, Default)]
-pub struct Bits(Vec<bool>);
-
-impl Bits {
-    /// Fields as value and width.
-    pub fn of(fields: &[(u64, usize)]) -> Self {
-        let mut bits = Self::default();
-        for &(value, width) in fields {
-            bits.add(value, width);
-        }
-        bits
-    }
-
-    pub fn add(&mut self, value: impl Into<u64>, width: usize) {
-        let value = value.into();
-        self.0.extend((0..width).rev().map(|i| value >> i & 1 == 1));
-    }
-
-    fn add_items(&mut self, items: &[Item]) {
-        for &item in items {
-            self.add(item.label, 4);
-            self.add(item.value, width(item));
-        }
-    }
-
-    fn pad(&mut self, length: usize) {
-        self.0.resize(self.0.len().max(length), false);
-    }
-
-    /// Numbers of `width` bits, the last one filled with zero bits.
-    fn numbers(&self, width: usize) -> Vec<u64> {
-        let number = |bits: &[bool]| {
-            let filled = bits.iter().copied().chain([false].repeat(width));
-            filled.take(width).fold(0, |n, bit| 2 * n + u64::from(bit))
-        };
-        self.0.chunks(width).map(number).collect()
-    }
-
-    pub fn bytes(&self) -> Vec<u8> {
-        self.numbers(8).iter().map(|&byte| byte as u8).collect()
-    }
-
-    fn number(&self) -> u64 {
-        self.numbers(self.0.len())[0]
-    }
-}
-
-/// The check word by a register of 16 stages, a bit at a time.
-pub fn check_word(bytes: &[u8]) -> u16 {
-    let mut register = 0xFFFF_u16;
-    for i in 0..8 * bytes.len() {
-        let bit = u16::from(bytes[i / 8] >> (7 - i % 8) & 1);
-        let feedback = register >> 15 ^ bit;
-        register = (register << 1) ^ (feedback * 0x1021);
-    }
-    !register
-}
-
-/// Bytes with their check word after them.
-pub fn checked(mut bytes: Vec<u8>) -> Vec<u8> {
-    let check = check_word(&bytes);
-    bytes.extend(check.to_be_bytes());
-    bytes
-}
 
 /// The code of a foreign location table.
 pub fn flt_code(country: u8, ltn: u8) -> u16 {
@@ -291,26 +234,6 @@ fn trim(items: &mut Vec<Item>) {
     while items.last() == Some(&Item::default()) {
         items.pop();
     }
-}
-
-/// A number of so many bits at the front and what follows it, if there are as many.
-fn front(bits: &[bool], width: usize) -> Option<(u16, &[bool])> {
-    let (front, rest) = bits.split_at_checked(width)?;
-    let number = |n, &bit: &bool| 2 * n + u16::from(bit);
-    Some((front.iter().fold(0, number), rest))
-}
-
-/// The items that bits are, if they are items.
-fn items_of(mut bits: &[bool]) -> Option<Vec<Item>> {
-    let mut items = Vec::new();
-    while bits.contains(&true) {
-        let (label, rest) = front(bits, 4)?;
-        let width = *WIDTHS.get(usize::from(label))?;
-        let (value, rest) = front(rest, width as usize)?;
-        items.push(Item { label, value });
-        bits = rest;
-    }
-    Some(items)
 }
 
 /// Whether a report is INTER-ROAD.
@@ -534,42 +457,6 @@ pub fn group(group: RdsGroup) -> Vec<u8> {
     bits.bytes()
 }
 
-/// The most words of a FIG by its D1, and the bits of each.
-pub fn fig_words(d1: u8) -> (usize, usize) {
-    if d1 == 0 {
-        (FIG_WORDS, 37)
-    } else {
-        (14, 16)
-    }
-}
-
-/// The bits of a FIG of type 5 before its data.
-pub fn fig_start(fig: Fig, d2: u8, extension: u8) -> Bits {
-    let mut bits = Bits::default();
-    bits.add(fig.d1, 1);
-    bits.add(d2, 1);
-    bits.add(fig.tcid, 3);
-    bits.add(extension, 3);
-    bits
-}
-
-/// The bytes of a FIG of this type, by those after its first.
-pub fn typed_fig(fig_type: u8, rest: &[u8]) -> Vec<u8> {
-    let mut fig = Bits::of(&[(fig_type.into(), 3), (rest.len() as u64, 5)]).bytes();
-    fig.extend(rest);
-    fig
-}
-
-/// The bytes of a FIG 5/1.
-pub fn fig(fig: Fig, words: &[u64]) -> Vec<u8> {
-    let (_, width) = fig_words(fig.d1);
-    let mut bits = fig_start(fig, 0, 1);
-    for &word in words {
-        bits.add(word, width);
-    }
-    typed_fig(5, &bits.bytes())
-}
-
 /// A data unit with a header or without.
 pub fn random_unit(random: &mut Random) -> DrmUnit {
     let mut unit = DrmUnit {
@@ -614,83 +501,4 @@ pub fn unit(unit: &DrmUnit, words: &[u64], ua: Option<u16>, rfa: u8) -> Vec<u8> 
         bits.add(word, 37);
     }
     bits.bytes()
-}
-
-/// The minute at which a life ends: life 0 at the next minute that is a midnight of the service.
-pub fn expiry(minute: u32, lto: i8, life: u16) -> u32 {
-    let midnight = |&minute: &i64| (minute + 30 * i64::from(lto)).rem_euclid(1440) == 0;
-    let minute = i64::from(minute);
-    let end = match life {
-        0 => (minute + 1..=minute + 1440).find(midnight),
-        _ => Some(minute + i64::from(life)),
-    };
-    end.unwrap_or_default() as u32
-}
-
-/// A location in all its parts.
-#[derive(Clone, Copy, Debug, PartialEq, Eq)]
-pub struct Location {
-    pub country: u8,
-    pub ltn: u8,
-    pub code: u16,
-}
-
-/// The location of a report of a service: the real one if it is INTER-ROAD.
-pub fn location(report: &Report, service: Service) -> Location {
-    let flt = report.head.location;
-    match is_inter_road(report) {
-        true => Location {
-            country: (flt / 64 % 16) as u8,
-            ltn: (flt % 64) as u8,
-            code: report.real_location,
-        },
-        false => Location {
-            country: service.country,
-            ltn: service.ltn,
-            code: flt,
-        },
-    }
-}
-
-/// The report that a record of it reads back as: with the service's own FLT code it is at home.
-pub fn read_back(mut report: Report, service: Service) -> Report {
-    if is_inter_road(&report) && report.head.location == flt_code(service.country, service.ltn) {
-        report.head.location = report.real_location;
-        report.real_location = 0;
-    }
-    report
-}
-
-/// The items that a record has as its content, none if that does not read as items.
-pub fn record_items(record: &[u8]) -> Option<Vec<Item>> {
-    let bytes: Vec<_> = record[16..30]
-        .iter()
-        .map(|&byte| (byte.into(), 8))
-        .collect();
-    let length = 28 * usize::from(record[1]).saturating_sub(1);
-    items_of(&Bits::of(&bytes).0[..length.min(CONTENT_BITS)])
-}
-
-/// The bytes of a record that stores these classes.
-pub fn record(report: &Report, service: Service, expiry: u32, classes: &Set) -> Vec<u8> {
-    let Location { country, ltn, code } = location(report, service);
-    let items = &report.items[..report.item_count];
-    let groups = match report.form {
-        0 => 1,
-        _ => 1 + item_parts(items).len(),
-    };
-    let mut content = Bits::default();
-    content.add_items(items);
-    content.pad(CONTENT_BITS);
-    let head = report.head;
-    let mut record = vec![1, groups as u8, service.sid, service.ltn];
-    record.extend(code.to_le_bytes());
-    record.extend(head.event.to_le_bytes());
-    record.extend([head.direction, head.extent]);
-    record.extend([report.diversion, report.duration]);
-    record.extend(expiry.to_le_bytes());
-    record.extend(content.bytes());
-    record.extend([0, service.country, country, ltn]);
-    record.extend(classes::bytes(classes));
-    record
 }
