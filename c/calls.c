@@ -310,21 +310,36 @@ static void same_state(int line, struct alertc_assembler found, struct alertc_as
     }
 }
 
+#define SAME_ANSWER(found, kind)                                                                   \
+    same_answer(__LINE__, found, kind, ALERTC_ACCEPTED, ALERTC_NOT_BROKEN)
+#define SAME_REFUSAL(found, refusal, broken_at)                                                    \
+    same_answer(__LINE__, found, ALERTC_ANSWER_NOTHING, refusal, broken_at)
+
+/* An answer of this kind, or a refusal with its place; what the kind does not have is 0. */
+static void same_answer(int line, struct alertc_assembler_answer found, uint8_t kind,
+                        uint8_t refusal, uint8_t broken_at) {
+    const struct alertc_report none = ALERTC_REPORT_INIT;
+    same(line, "kind", found.kind, kind);
+    same(line, "refusal", found.refusal, refusal);
+    same(line, "broken_at", found.broken_at, broken_at);
+    if (kind != ALERTC_ANSWER_REPORT) {
+        same_report(line, found.report, none);
+    }
+    if (kind != ALERTC_ANSWER_TUNING && kind != ALERTC_ANSWER_ADMINISTRATION) {
+        same(line, "word", found.word, 0);
+    }
+}
+
 static void assembler(void) {
     const struct alertc_assembler empty = ALERTC_ASSEMBLER_INIT;
-    const struct alertc_report none = ALERTC_REPORT_INIT;
 
     struct alertc_assembler_answer a = alertc_assembler_step(empty, SINGLE_101);
-    SAME(a.refusal, ALERTC_ACCEPTED);
-    SAME(a.kind, ALERTC_ANSWER_REPORT);
-    SAME(a.word, 0);
+    SAME_ANSWER(a, ALERTC_ANSWER_REPORT);
     SAME_REPORT(a.report, report_101());
     SAME_STATE(a.next, empty);
 
     a = alertc_assembler_step(empty, FIRST_401);
-    SAME(a.refusal, ALERTC_ACCEPTED);
-    SAME(a.kind, ALERTC_ANSWER_NOTHING);
-    SAME_REPORT(a.report, none);
+    SAME_ANSWER(a, ALERTC_ANSWER_NOTHING);
     struct alertc_assembler opened = ALERTC_ASSEMBLER_INIT;
     opened.ci = 2;
     opened.first_group.extent = 1;
@@ -333,38 +348,35 @@ static void assembler(void) {
     SAME_STATE(a.next, opened);
 
     a = alertc_assembler_step(opened, LATER_401);
-    SAME(a.refusal, ALERTC_ACCEPTED);
-    SAME(a.kind, ALERTC_ANSWER_REPORT);
+    SAME_ANSWER(a, ALERTC_ANSWER_REPORT);
     SAME_REPORT(a.report, report_401());
     SAME_STATE(a.next, empty);
 
     a = alertc_assembler_step(opened, STRAY_401);
-    SAME(a.refusal, ALERTC_REFUSED_OUT_OF_TURN);
-    SAME(a.kind, ALERTC_ANSWER_NOTHING);
-    SAME_REPORT(a.report, none);
+    SAME_REFUSAL(a, ALERTC_REFUSED_OUT_OF_TURN, ALERTC_NOT_BROKEN);
     SAME_STATE(a.next, empty);
-    SAME(alertc_assembler_step(empty, LATER_401).refusal, ALERTC_REFUSED_OUT_OF_TURN);
+    a = alertc_assembler_step(empty, LATER_401);
+    SAME_REFUSAL(a, ALERTC_REFUSED_OUT_OF_TURN, ALERTC_NOT_BROKEN);
 
     /* 28 ones begin with label 15. Three items (0,0) leave seven bits, too few for label 2. */
-    SAME(alertc_assembler_step(opened, UINT64_C(0x024FFFFFFF)).refusal, ALERTC_REFUSED_LABEL_15);
+    a = alertc_assembler_step(opened, UINT64_C(0x024FFFFFFF));
+    SAME_REFUSAL(a, ALERTC_REFUSED_LABEL_15, 0);
     a = alertc_assembler_step(opened, UINT64_C(0x0240000011));
-    SAME(a.refusal, ALERTC_REFUSED_CONTENT);
+    SAME_REFUSAL(a, ALERTC_REFUSED_CONTENT, 21);
     SAME_STATE(a.next, empty);
 
     a = alertc_assembler_step(opened, UINT64_C(0x1123456789));
-    SAME(a.refusal, ALERTC_ACCEPTED);
-    SAME(a.kind, ALERTC_ANSWER_TUNING);
+    SAME_ANSWER(a, ALERTC_ANSWER_TUNING);
     SAME(a.word, UINT64_C(0x1123456789));
     SAME_STATE(a.next, opened);
     a = alertc_assembler_step(opened, UINT64_C(0x0012345678));
-    SAME(a.kind, ALERTC_ANSWER_ADMINISTRATION);
+    SAME_ANSWER(a, ALERTC_ANSWER_ADMINISTRATION);
     SAME(a.word, UINT64_C(0x0012345678));
     a = alertc_assembler_step(opened, UINT64_C(0x0712345678));
-    SAME(a.refusal, ALERTC_REFUSED_INDEX_7);
-    SAME(a.word, 0);
+    SAME_REFUSAL(a, ALERTC_REFUSED_INDEX_7, ALERTC_NOT_BROKEN);
     SAME_STATE(a.next, opened);
     a = alertc_assembler_step(opened, ALERTC_WORD_LIMIT);
-    SAME(a.refusal, ALERTC_REFUSED_UNFIT);
+    SAME_REFUSAL(a, ALERTC_REFUSED_UNFIT, ALERTC_NOT_BROKEN);
     SAME_STATE(a.next, opened);
 
     /* Five groups of index 4, whose content is 28 items of label 14. */
@@ -374,8 +386,7 @@ static void assembler(void) {
     struct alertc_assembler state = ALERTC_ASSEMBLER_INIT;
     for (size_t i = 0; i < 4; i++) {
         a = alertc_assembler_step(state, groups[i]);
-        SAME(a.refusal, ALERTC_ACCEPTED);
-        SAME(a.kind, ALERTC_ANSWER_NOTHING);
+        SAME_ANSWER(a, ALERTC_ANSWER_NOTHING);
         state = a.next;
     }
     struct alertc_assembler three = ALERTC_ASSEMBLER_INIT;
@@ -396,7 +407,7 @@ static void assembler(void) {
     full.location = 0x1234;
     full = with_items_14(full, ALERTC_ITEMS);
     a = alertc_assembler_step(state, groups[4]);
-    SAME(a.kind, ALERTC_ANSWER_REPORT);
+    SAME_ANSWER(a, ALERTC_ANSWER_REPORT);
     SAME_REPORT(a.report, full);
     SAME_STATE(a.next, empty);
 
@@ -410,8 +421,7 @@ static void assembler(void) {
     struct alertc_assembler unreached = ALERTC_ASSEMBLER_INIT;
     unreached.gsi = 1;
     a = alertc_assembler_step(unreached, SINGLE_101);
-    SAME(a.refusal, ALERTC_REFUSED_UNFIT);
-    SAME(a.kind, ALERTC_ANSWER_NOTHING);
+    SAME_REFUSAL(a, ALERTC_REFUSED_UNFIT, ALERTC_NOT_BROKEN);
     SAME_STATE(a.next, unreached);
 }
 
@@ -432,8 +442,8 @@ static void same_message(int line, struct alertc_report report, uint8_t ci, cons
     for (size_t i = 0; i < count; i++) {
         struct alertc_assembler_answer a = alertc_assembler_step(state, words[i]);
         same(line, "word", written[i], words[i]);
-        same(line, "refusal", a.refusal, ALERTC_ACCEPTED);
-        same(line, "kind", a.kind, i + 1 < count ? ALERTC_ANSWER_NOTHING : ALERTC_ANSWER_REPORT);
+        same_answer(line, a, i + 1 < count ? ALERTC_ANSWER_NOTHING : ALERTC_ANSWER_REPORT,
+                    ALERTC_ACCEPTED, ALERTC_NOT_BROKEN);
         if (a.kind == ALERTC_ANSWER_REPORT) {
             same_report(line, a.report, report);
         }
@@ -451,6 +461,20 @@ static uint8_t write_refusal(struct alertc_report report) {
     SAME(w.count, 0);
     REST_UNTOUCHED(words, 0);
     return w.refusal;
+}
+
+/* An empty assembler refuses the last of these words for content that broke at this place, and is
+ * then empty again. */
+static void breaks(int line, const uint64_t *words, size_t count, uint8_t refusal,
+                   uint8_t broken_at) {
+    const struct alertc_assembler empty = ALERTC_ASSEMBLER_INIT;
+    struct alertc_assembler_answer a = alertc_assembler_step(empty, words[0]);
+    for (size_t i = 1; i < count; i++) {
+        same_answer(line, a, ALERTC_ANSWER_NOTHING, ALERTC_ACCEPTED, ALERTC_NOT_BROKEN);
+        a = alertc_assembler_step(a.next, words[i]);
+    }
+    same_answer(line, a, ALERTC_ANSWER_NOTHING, refusal, broken_at);
+    same_state(line, a.next, empty);
 }
 
 /* ISO 14819-1, 6.7.2: the real location is the first 16 bits of the second group's content. */
@@ -531,17 +555,6 @@ static void inter_road(void) {
     r = report_401();
     r.real_location = 500;
     SAME(write_refusal(r), ALERTC_REFUSED_UNFIT);
-
-    /* Label 10 with eight bits left, label 15. */
-    const struct alertc_assembler empty = ALERTC_ASSEMBLER_INIT;
-    struct alertc_assembler opened = alertc_assembler_step(empty, FIRST_FOREIGN).next;
-    struct alertc_assembler_answer a = alertc_assembler_step(opened, UINT64_C(0x02401F4AFF));
-    SAME(a.refusal, ALERTC_REFUSED_CONTENT);
-    SAME(a.report.real_location, 0);
-    SAME_STATE(a.next, empty);
-    a = alertc_assembler_step(opened, UINT64_C(0x02401F4F00));
-    SAME(a.refusal, ALERTC_REFUSED_LABEL_15);
-    SAME_STATE(a.next, empty);
 
     /* A data unit's writer reads its words in the same way: TMCHI 0, Short ID 5, real_flt. */
     const uint8_t bytes[] = {0x14, 0x51, 0x32, 0x3F, 0xE8, 0x22,
@@ -968,6 +981,22 @@ static void drm(void) {
     SAME(alertc_check_word((const uint8_t *)"\xFF\xFF", 2), 0xFFFF);
 }
 
+#define SAME_READING(found, refusal) same_reading(__LINE__, found, refusal, ALERTC_NOT_BROKEN)
+
+/* A used record is read, or refused with this place; all else is then 0. */
+static void same_reading(int line, struct alertc_table_reading found, uint8_t refusal,
+                         uint8_t broken_at) {
+    const struct alertc_report none = ALERTC_REPORT_INIT;
+    same(line, "refusal", found.refusal, refusal);
+    same(line, "broken_at", found.broken_at, broken_at);
+    same(line, "used", found.used, refusal == ALERTC_ACCEPTED);
+    if (refusal != ALERTC_ACCEPTED) {
+        same_report(line, found.report, none);
+        same(line, "service", found.service.country | found.service.ltn | found.service.sid, 0);
+        same(line, "expiry", found.expiry, 0);
+    }
+}
+
 enum { PLACES = 2 };
 
 static void table(void) {
@@ -1014,15 +1043,14 @@ static void table(void) {
     SAME_BYTES(bytes, records, sizeof bytes);
 
     struct alertc_table_reading r = alertc_table_read(bytes, sizeof bytes, 1);
-    SAME(r.refusal, ALERTC_ACCEPTED);
-    SAME(r.used, 1);
+    SAME_READING(r, ALERTC_ACCEPTED);
     SAME_REPORT(r.report, report_401());
     SAME(r.service.country, 1);
     SAME(r.service.ltn, 17);
     SAME(r.service.sid, 37);
     SAME(r.expiry, 1380);
-    SAME(alertc_table_read(bytes, sizeof bytes, PLACES).refusal, ALERTC_REFUSED_UNFIT);
-    SAME(alertc_table_read(bytes, sizeof bytes - 1, 0).refusal, ALERTC_REFUSED_MALFORMED);
+    SAME_READING(alertc_table_read(bytes, sizeof bytes, PLACES), ALERTC_REFUSED_UNFIT);
+    SAME_READING(alertc_table_read(bytes, sizeof bytes - 1, 0), ALERTC_REFUSED_MALFORMED);
 
     /* Refusals leave the table and the clock. */
     struct alertc_report unknown = report_101(), foreign = report_101(), other = report_101(),
@@ -1098,6 +1126,7 @@ static void table(void) {
     SAME(clock, 160);
     r = alertc_table_read(bytes, sizeof bytes, 0);
     SAME(r.refusal, ALERTC_ACCEPTED);
+    SAME(r.broken_at, ALERTC_NOT_BROKEN);
     SAME(r.used, 0);
     SAME(r.expiry, 0);
     SAME_REPORT(r.report, none);
@@ -1105,14 +1134,16 @@ static void table(void) {
     /* One record's bytes, without the table. */
     const uint8_t *second = bytes + ALERTC_RECORD_BYTES;
     r = alertc_record_read(second, ALERTC_RECORD_BYTES);
-    SAME(r.refusal, ALERTC_ACCEPTED);
-    SAME(r.used, 1);
+    SAME_READING(r, ALERTC_ACCEPTED);
     SAME_REPORT(r.report, report_401());
     SAME(r.service.sid, 37);
     SAME(r.expiry, 1380);
-    SAME(alertc_record_read(bytes, ALERTC_RECORD_BYTES).used, 0);
-    SAME(alertc_record_read(second, ALERTC_RECORD_BYTES - 1).refusal, ALERTC_REFUSED_MALFORMED);
-    SAME(alertc_record_read(second - 1, ALERTC_RECORD_BYTES).refusal, ALERTC_REFUSED_MALFORMED);
+    r = alertc_record_read(bytes, ALERTC_RECORD_BYTES);
+    SAME(r.refusal, ALERTC_ACCEPTED);
+    SAME(r.broken_at, ALERTC_NOT_BROKEN);
+    SAME(r.used, 0);
+    SAME_READING(alertc_record_read(second, ALERTC_RECORD_BYTES - 1), ALERTC_REFUSED_MALFORMED);
+    SAME_READING(alertc_record_read(second - 1, ALERTC_RECORD_BYTES), ALERTC_REFUSED_MALFORMED);
 
     SAME(alertc_expiry(0, 0, 0).minute, 1440);
     SAME(alertc_expiry(0, 2, 0).minute, 1380);
@@ -1270,8 +1301,7 @@ static void same_set(int line, size_t place, uint64_t set) {
 /* The record at this place reads back as this report of the service, taken at minute 100. */
 static void kept(int line, size_t place, struct alertc_report report) {
     struct alertc_table_reading r = alertc_table_read(small_table, sizeof small_table, place);
-    same(line, "refusal", r.refusal, ALERTC_ACCEPTED);
-    same(line, "used", r.used, 1);
+    same_reading(line, r, ALERTC_ACCEPTED, ALERTC_NOT_BROKEN);
     same_report(line, r.report, report);
     same(line, "country", r.service.country, 13);
     same(line, "ltn", r.service.ltn, 17);
@@ -1373,20 +1403,20 @@ static void border(void) {
     record[33] = 63;
     struct alertc_report highest = report_foreign();
     highest.location = 0xFFFF;
-    SAME(alertc_record_read(record, sizeof record).refusal, ALERTC_ACCEPTED);
+    SAME_READING(alertc_record_read(record, sizeof record), ALERTC_ACCEPTED);
     SAME_REPORT(alertc_record_read(record, sizeof record).report, highest);
     record[32] = 16;
-    SAME(alertc_record_read(record, sizeof record).refusal, ALERTC_REFUSED_MALFORMED);
+    SAME_READING(alertc_record_read(record, sizeof record), ALERTC_REFUSED_MALFORMED);
     record[32] = 15;
     record[33] = 64;
-    SAME(alertc_record_read(record, sizeof record).refusal, ALERTC_REFUSED_MALFORMED);
+    SAME_READING(alertc_record_read(record, sizeof record), ALERTC_REFUSED_MALFORMED);
     memcpy(record, worked, sizeof record);
     record[1] = 1;
     record[16] = record[17] = 0;
     struct alertc_report one_group = with_items_14(report_foreign(), 0);
     one_group.form = ALERTC_SINGLE_GROUP;
     one_group.duration = 2;
-    SAME(alertc_record_read(record, sizeof record).refusal, ALERTC_ACCEPTED);
+    SAME_READING(alertc_record_read(record, sizeof record), ALERTC_ACCEPTED);
     SAME_REPORT(alertc_record_read(record, sizeof record).report, one_group);
 }
 
@@ -1532,25 +1562,44 @@ static void malformed(int line, const uint8_t *record) {
             same(line, "clock", small_clock, 100);
         }
         for (size_t i = 0; i <= 3; i++) {
-            struct alertc_table_reading r = alertc_table_read(small_table, sizeof small_table, i);
-            same(line, "refusal", r.refusal, ALERTC_REFUSED_MALFORMED);
-            same(line, "used", r.used, 0);
+            same_reading(line, alertc_table_read(small_table, sizeof small_table, i),
+                         ALERTC_REFUSED_MALFORMED, ALERTC_NOT_BROKEN);
         }
-        same(line, "refusal", alertc_record_read(at, ALERTC_RECORD_BYTES).refusal,
-             ALERTC_REFUSED_MALFORMED);
+        same_reading(line, alertc_record_read(at, ALERTC_RECORD_BYTES), ALERTC_REFUSED_MALFORMED,
+                     ALERTC_NOT_BROKEN);
         same_bytes(line, "table", small_table, before, sizeof before);
     }
 }
 
-#define TAKEN_NOT_RENEWED(record, reading) taken_not_renewed(__LINE__, record, reading)
+/*
+ * Alone and among the others of a full table this record is read, or refused with this place. The
+ * others are read, and past the last there is none.
+ */
+static void reads(int line, const uint8_t *record, uint8_t refusal, uint8_t broken_at) {
+    same_reading(line, alertc_record_read(record, ALERTC_RECORD_BYTES), refusal, broken_at);
+    for (size_t place = 0; place < 3; place++) {
+        all_accidents();
+        memcpy(small_table + place * ALERTC_RECORD_BYTES, record, ALERTC_RECORD_BYTES);
+        same_reading(line, alertc_table_read(small_table, sizeof small_table, place), refusal,
+                     broken_at);
+        same_reading(line, alertc_table_read(small_table, sizeof small_table, (place + 1) % 3),
+                     ALERTC_ACCEPTED, ALERTC_NOT_BROKEN);
+        same_reading(line, alertc_table_read(small_table, sizeof small_table, 3),
+                     ALERTC_REFUSED_UNFIT, ALERTC_NOT_BROKEN);
+    }
+}
+
+#define TAKEN_NOT_RENEWED(record, reading, broken_at)                                              \
+    taken_not_renewed(__LINE__, record, reading, broken_at)
 
 /*
  * With this record among the others of a full table a renewal is refused (10), until it is gone. A
  * take is not: it has its other refusals, and matches by the set, which is that of the others. The
  * record is read, or refused, as given, expires, and is dropped if it is the one to expire soonest.
  */
-static void taken_not_renewed(int line, const uint8_t *record, uint8_t reading) {
+static void taken_not_renewed(int line, const uint8_t *record, uint8_t reading, uint8_t broken_at) {
     const int elsewhere = record[4] != accident[4];
+    reads(line, record, reading, broken_at);
     for (size_t place = 0; place < 3; place++) {
         uint8_t *at = small_table + place * ALERTC_RECORD_BYTES;
         uint8_t before[sizeof small_table], expected[sizeof small_table] = {0};
@@ -1561,9 +1610,6 @@ static void taken_not_renewed(int line, const uint8_t *record, uint8_t reading) 
         refused_when_full(line, 0);
         take(line, report_of(2047), 100, freeing(0, 0));
         take(line, report_of(662), 100, freeing(0, 0));
-        same(line, "refusal", alertc_record_read(at, ALERTC_RECORD_BYTES).refusal, reading);
-        same(line, "refusal", alertc_table_read(small_table, sizeof small_table, place).refusal,
-             reading);
         struct alertc_table_answer t =
             alertc_table_expire(small_table, sizeof small_table, &small_clock, 159);
         same(line, "refusal", t.refusal, ALERTC_ACCEPTED);
@@ -1852,21 +1898,155 @@ static void sets(void) {
     refused_when_full(__LINE__, 0);
     memcpy(record, accident, sizeof record);
     record[19] = 0x10;
-    TAKEN_NOT_RENEWED(record, ALERTC_REFUSED_CONTENT);
+    TAKEN_NOT_RENEWED(record, ALERTC_REFUSED_CONTENT, 22);
     record[16] = record[17] = record[18] = 0xEE;
     record[19] = 0xA0;
-    TAKEN_NOT_RENEWED(record, ALERTC_REFUSED_CONTENT);
+    TAKEN_NOT_RENEWED(record, ALERTC_REFUSED_CONTENT, 24);
     record[19] = 0xF0;
-    TAKEN_NOT_RENEWED(record, ALERTC_REFUSED_LABEL_15);
+    TAKEN_NOT_RENEWED(record, ALERTC_REFUSED_LABEL_15, 24);
     memcpy(record, accident, sizeof record);
     record[6] = 0x2C;
     record[7] = 0x01;
-    TAKEN_NOT_RENEWED(record, ALERTC_ACCEPTED);
+    TAKEN_NOT_RENEWED(record, ALERTC_ACCEPTED, ALERTC_NOT_BROKEN);
     record[6] = 0xFF;
     record[7] = 0x07;
-    TAKEN_NOT_RENEWED(record, ALERTC_ACCEPTED);
+    TAKEN_NOT_RENEWED(record, ALERTC_ACCEPTED, ALERTC_NOT_BROKEN);
     record[4] = 0xF6; /* elsewhere too */
-    TAKEN_NOT_RENEWED(record, ALERTC_ACCEPTED);
+    TAKEN_NOT_RENEWED(record, ALERTC_ACCEPTED, ALERTC_NOT_BROKEN);
+}
+
+/* What stands between the first and the last of four and of five groups: items of label 14. On a
+ * foreign road the first four digits are the real location. */
+#define ITEMS_14_OF_4 UINT64_C(0x026EEEEEEE), UINT64_C(0x021EEEEEEE)
+#define ITEMS_14_OF_5 UINT64_C(0x027EEEEEEE), UINT64_C(0x022EEEEEEE), UINT64_C(0x021EEEEEEE)
+
+/* Content that is refused broke at a place: where the item begins that could not be taken. */
+static void broken(void) {
+    const uint8_t content = ALERTC_REFUSED_CONTENT, label_15 = ALERTC_REFUSED_LABEL_15;
+    const struct {
+        int line;
+        uint64_t words[ALERTC_MESSAGE_WORDS]; /* 0 after the last */
+        uint8_t refusal;
+        uint8_t broken_at;
+    } messages[] = {
+        /* The worked cases: label 10 at the end, 001 after labels 2, 3 and 1, label 15. */
+        {__LINE__, {FIRST_401, UINT64_C(0x024EEEEEEA)}, content, 24},
+        {__LINE__, {FIRST_401, UINT64_C(0x0242018041)}, content, 25},
+        {__LINE__, {FIRST_401, UINT64_C(0x024FFFFFFF)}, label_15, 0},
+        {__LINE__, {FIRST_401, UINT64_C(0x025EEEEEEE), UINT64_C(0x020EEF0000)}, label_15, 36},
+        {__LINE__, {FIRST_FOREIGN, UINT64_C(0x02401F4AFF)}, content, 16},
+
+        /* That second group at home: label 15 after (0,0). */
+        {__LINE__, {FIRST_401, UINT64_C(0x02401F4AFF)}, label_15, 7},
+
+        /* A value of which the last bit is missing, of labels 0, 1, 2, 4, 5, 8, 9, 10 and 13. */
+        {__LINE__, {FIRST_401, UINT64_C(0x0249502081)}, content, 22},
+        {__LINE__, {FIRST_401, UINT64_C(0x0249502084)}, content, 22},
+        {__LINE__, {FIRST_401, UINT64_C(0x024EEEEE20)}, content, 20},
+        {__LINE__, {FIRST_401, UINT64_C(0x024EEEEE40)}, content, 20},
+        {__LINE__, {FIRST_401, UINT64_C(0x0242077280)}, content, 17},
+        {__LINE__, {FIRST_401, UINT64_C(0x0242077400)}, content, 17},
+        {__LINE__, {FIRST_401, UINT64_C(0x0241022400)}, content, 14},
+        {__LINE__, {FIRST_401, UINT64_C(0x0242050000)}, content, 9},
+        {__LINE__, {FIRST_401, UINT64_C(0x0242068000)}, content, 9},
+
+        /* Two bits are left, 10, and one, after labels 14 and 1. */
+        {__LINE__, {FIRST_401, UINT64_C(0x024EEE1022)}, content, 26},
+        {__LINE__, {FIRST_401, UINT64_C(0x024EEEEE11)}, content, 27},
+
+        /* Label 15 on both sides of a group's end, and after a value that goes on behind it. */
+        {__LINE__, {FIRST_401, UINT64_C(0x025EEEEE11), UINT64_C(0x020E000000)}, label_15, 27},
+        {__LINE__, {FIRST_401, UINT64_C(0x025EEEEEEA), UINT64_C(0x0200001F00)}, label_15, 44},
+
+        /* One bit is left of three, four and five groups. Of five also: label 1 at the end, three
+         * bits are left, 001, and two, 10. */
+        {__LINE__, {FIRST_401, UINT64_C(0x025EEEEEEE), UINT64_C(0x020EEEEE11)}, content, 55},
+        {__LINE__, {FIRST_401, ITEMS_14_OF_4, UINT64_C(0x020EEEEE11)}, content, 83},
+        {__LINE__, {FIRST_401, ITEMS_14_OF_5, UINT64_C(0x020EEEEE11)}, content, 111},
+        {__LINE__, {FIRST_401, ITEMS_14_OF_5, UINT64_C(0x020EEEEEE1)}, content, 108},
+        {__LINE__, {FIRST_401, ITEMS_14_OF_5, UINT64_C(0x020EEEE201)}, content, 109},
+        {__LINE__, {FIRST_401, ITEMS_14_OF_5, UINT64_C(0x020EEE1022)}, content, 110},
+
+        /* The real location is counted, and is no item: label 15; real location 0xFC00; one bit
+         * left; three groups and five. */
+        {__LINE__, {FIRST_FOREIGN, UINT64_C(0x02401F4F00)}, label_15, 16},
+        {__LINE__, {FIRST_FOREIGN, UINT64_C(0x024FC00F00)}, label_15, 16},
+        {__LINE__, {FIRST_FOREIGN, UINT64_C(0x02401F4E11)}, content, 27},
+        {__LINE__, {FIRST_FOREIGN, UINT64_C(0x02501F4EEE), UINT64_C(0x020EEF0000)}, label_15, 36},
+        {__LINE__, {FIRST_FOREIGN, ITEMS_14_OF_5, UINT64_C(0x020EEEEE11)}, content, 111},
+    };
+    uint8_t record[ALERTC_RECORD_BYTES];
+    SAME(ALERTC_NOT_BROKEN, 255);
+    for (size_t i = 0; i < sizeof messages / sizeof messages[0]; i++) {
+        const uint64_t *words = messages[i].words;
+        size_t count = 2;
+        while (count < ALERTC_MESSAGE_WORDS && words[count] != 0) {
+            count++;
+        }
+        breaks(messages[i].line, words, count, messages[i].refusal, messages[i].broken_at);
+        if (words[0] == FIRST_FOREIGN) {
+            continue;
+        }
+
+        /* A record with that content, at home; on a foreign road, where no bit is added. */
+        memcpy(record, accident, sizeof record);
+        record[1] = (uint8_t)count;
+        memset(record + 16, 0, 14);
+        for (size_t k = 0; k < 7 * (count - 1); k++) {
+            const uint64_t digit = words[1 + k / 7] >> 4 * (6 - k % 7) & 0xF;
+            record[16 + k / 2] |= (uint8_t)(k % 2 == 0 ? 16 * digit : digit);
+        }
+        reads(messages[i].line, record, messages[i].refusal, messages[i].broken_at);
+        record[33] = 1;
+        reads(messages[i].line, record, messages[i].refusal, messages[i].broken_at);
+    }
+
+    /* Two to five groups of label 14, and label 15 in each place; not in a real location. */
+    for (size_t later = 1; later < ALERTC_MESSAGE_WORDS; later++) {
+        for (size_t digit = 0; digit < 7 * later; digit++) {
+            uint64_t words[ALERTC_MESSAGE_WORDS] = {FIRST_401};
+            for (size_t i = 1; i <= later; i++) {
+                const uint64_t mark = i == 1 ? 4 : 0, gsi = later - i;
+                words[i] = UINT64_C(0x020EEEEEEE) + ((mark + gsi) << 28);
+            }
+            words[1 + digit / 7] |= UINT64_C(1) << 4 * (6 - digit % 7);
+            breaks(__LINE__, words, 1 + later, label_15, (uint8_t)(4 * digit));
+            words[0] = FIRST_FOREIGN;
+            if (digit >= 4) {
+                breaks(__LINE__, words, 1 + later, label_15, (uint8_t)(4 * digit));
+            }
+        }
+    }
+
+    /* Not broken: a value that just fits; zeros at the end, one and four; a foreign road's. */
+    const struct alertc_assembler empty = ALERTC_ASSEMBLER_INIT;
+    const struct {
+        uint64_t first, later;
+        size_t items;
+    } whole[] = {{FIRST_401, UINT64_C(0x024EEA0001), 3},
+                 {FIRST_401, UINT64_C(0x024EEEEE10), 6},
+                 {FIRST_401, UINT64_C(0x024EEEEEE0), 6},
+                 {FIRST_FOREIGN, UINT64_C(0x024FC00EEE), 3}};
+    for (size_t i = 0; i < sizeof whole / sizeof whole[0]; i++) {
+        struct alertc_assembler_answer a = alertc_assembler_step(empty, whole[i].first);
+        a = alertc_assembler_step(a.next, whole[i].later);
+        SAME_ANSWER(a, ALERTC_ANSWER_REPORT);
+        SAME(a.report.item_count, whole[i].items);
+    }
+
+    /* What is malformed goes before: content after its groups, byte 30, another record. */
+    memcpy(record, accident, sizeof record);
+    record[16] = 0xF0;
+    reads(__LINE__, record, label_15, 0);
+    record[19] = 0x01;
+    MALFORMED(record);
+    record[19] = 0;
+    record[30] = 1;
+    MALFORMED(record);
+    all_accidents();
+    small_table[16] = 0xF0;
+    small_table[ALERTC_RECORD_BYTES + 30] = 1;
+    SAME_READING(alertc_table_read(small_table, sizeof small_table, 0), ALERTC_REFUSED_MALFORMED);
 }
 
 /* All sets are worked out anew from a changed catalogue, or none is. */
@@ -2307,6 +2487,7 @@ int main(void) {
     border();
     classes();
     sets();
+    broken();
     renewals();
     full_tables();
     texts();

@@ -7,7 +7,8 @@
  * The recording is in the house form: length (16 bits, low byte first, counting what follows it),
  * kind (16 bits), body. Kind 1 is an RDS group, 2 a FIG 5/1, 3 a DRM data unit. All of it is heard
  * at minute HEARD, and the table is shown at minute ASKED; minutes are UTC and count from a
- * midnight. A refusal prints its frame, counted from 1, and its number and text.
+ * midnight. A refusal prints its frame, counted from 1, its number and its text, and one of content
+ * also the bit at which that broke.
  *
  * A location is shown as country/LTN/code, since a code means something in its own table alone: in
  * the service's at home, in another for a foreign road (INTER-ROAD). The service that said so is
@@ -117,12 +118,21 @@ static void retune_drm(struct box *box) {
     }
 }
 
-/* Says a refusal, and whether there was none. */
-static bool accepted(const struct box *box, uint8_t refusal) {
+/* Says a refusal, with the place where content broke, and whether there was none. */
+static bool accepted_content(const struct box *box, uint8_t refusal, uint8_t broken_at) {
     if (refusal != ALERTC_ACCEPTED) {
-        printf("! %lu %u %s\n", box->frame, (unsigned)refusal, alertc_refusal_text(refusal));
+        printf("! %lu %u %s", box->frame, (unsigned)refusal, alertc_refusal_text(refusal));
+        if (broken_at != ALERTC_NOT_BROKEN) {
+            printf(", at bit %u", (unsigned)broken_at);
+        }
+        puts("");
     }
     return refusal == ALERTC_ACCEPTED;
+}
+
+/* Says a refusal that has no such place, and whether there was none. */
+static bool accepted(const struct box *box, uint8_t refusal) {
+    return accepted_content(box, refusal, ALERTC_NOT_BROKEN);
 }
 
 /* Shows the record at a place of a table, if it is used. */
@@ -163,7 +173,8 @@ static void take_report(struct box *box, const struct followed *from,
 static void take_word(struct box *box, struct followed *from, uint64_t word) {
     struct alertc_assembler_answer answer = alertc_assembler_step(from->assembler, word);
     from->assembler = answer.next;
-    if (accepted(box, answer.refusal) && answer.kind == ALERTC_ANSWER_REPORT) {
+    if (accepted_content(box, answer.refusal, answer.broken_at) &&
+        answer.kind == ALERTC_ANSWER_REPORT) {
         take_report(box, from, answer.report);
     }
 }

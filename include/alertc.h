@@ -8,10 +8,11 @@
  *
  * Refusals. Every result has a field `refusal`, 0 where the call answers (ALERTC_ACCEPTED) and else
  * one of enum alertc_refusal; alertc_rds_write returns it. A refusal leaves all lent memory as it
- * was, and the other fields of the result are 0, but for two that a caller stores back in any case:
- * the run of alertc_rds_receive and the next state of alertc_assembler_step. A FIG that is refused
- * within a block is no refusal of the block: alertc_fib_read then answers with `refusal` 0, leaves
- * the words of the FIGs before it in the lent memory, and has the FIG's refusal in another field.
+ * was, and the other fields of the result are 0, but for three: the run of alertc_rds_receive and
+ * the next state of alertc_assembler_step, which a caller stores back in any case, and `broken_at`,
+ * the place where content broke or ALERTC_NOT_BROKEN. A FIG that is refused within a block is no
+ * refusal of the block: alertc_fib_read then answers with `refusal` 0, leaves the words of the FIGs
+ * before it in the lent memory, and has the FIG's refusal in another field.
  *
  * What to keep for each service. One run and one assembler for each service that is followed, so
  * that the groups of two services are never joined:
@@ -46,10 +47,10 @@ extern "C" {
 #endif
 
 /* The version of this interface: the first number changes when a caller must change. */
-#define ALERTC_VERSION_MAJOR 8
+#define ALERTC_VERSION_MAJOR 9
 #define ALERTC_VERSION_MINOR 0
 #define ALERTC_VERSION_PATCH 0
-#define ALERTC_VERSION "8.0.0"
+#define ALERTC_VERSION "9.0.0"
 
 /* ---- Refusals ---- */
 
@@ -71,6 +72,14 @@ enum alertc_refusal {
     ALERTC_REFUSED_NO_ROOM = 14,
     ALERTC_REFUSED_BUFFER = 15
 };
+
+/*
+ * Content that is refused (7, 8) broke at a place, 0 to 111, which the field `broken_at` has: the
+ * bit at which the item begins that could not be taken. Bits count from 0 over the content of all
+ * later groups of the message, 28 for each, an INTER-ROAD message's real location included. In
+ * every other answer, refused or not, the field is this number, which is no place.
+ */
+#define ALERTC_NOT_BROKEN 255
 
 /* What a refusal says, in English. Another number is "no refusal of this library". */
 static inline const char *alertc_refusal_text(unsigned refusal) {
@@ -304,12 +313,13 @@ struct alertc_assembler_answer {
     uint64_t word;                /* ALERTC_ANSWER_TUNING, .._ADMINISTRATION: the word, else 0 */
     uint8_t kind;                 /* enum alertc_answer; 0 on a refusal */
     uint8_t refusal;
+    uint8_t broken_at; /* refusals 7 and 8: the bit, 0 to 111, else ALERTC_NOT_BROKEN */
 };
 
 /*
  * Takes a valid word into the assembler. Refused: a word of 2^37 or more or a state that no calls
- * give (9), continuity index 7 (6): the state stays. A later group out of turn (5), content (7, 8):
- * the assembler is then empty.
+ * give (9), continuity index 7 (6): the state stays. A later group out of turn (5), content (7, 8),
+ * with the place where it broke: the assembler is then empty.
  */
 struct alertc_assembler_answer alertc_assembler_step(struct alertc_assembler state, uint64_t word);
 
@@ -612,18 +622,21 @@ struct alertc_table_reading {
     uint32_t expiry;               /* the minute at which it expires */
     uint8_t used;                  /* 1 if the record holds a report, 0 if it is free */
     uint8_t refusal;
+    uint8_t broken_at; /* refusals 7 and 8: the bit, 0 to 111, else ALERTC_NOT_BROKEN */
 };
 
 /*
  * Reads the record at a place, from 0. Refused: table (10), a place past the last record (9),
- * content (7, 8). The set of classes is tested with the table, and is not part of the answer.
+ * content (7, 8), with the bit of the record's content at which it broke: no real location stands
+ * there, and none is counted. The set of classes is tested with the table, and is not part of the
+ * answer.
  */
 struct alertc_table_reading alertc_table_read(const uint8_t *table, size_t table_len,
                                               size_t place);
 
 /*
  * Reads the bytes of one record, in a time that does not grow with a table. Refused: bytes that are
- * not one well-formed record (10), content (7, 8).
+ * not one well-formed record (10), content (7, 8), with the bit as in alertc_table_read.
  */
 struct alertc_table_reading alertc_record_read(const uint8_t *record, size_t record_len);
 
@@ -697,6 +710,7 @@ ALERTC_AT_(assembler_answer, next, 136);
 ALERTC_AT_(assembler_answer, word, 160);
 ALERTC_AT_(assembler_answer, kind, 168);
 ALERTC_AT_(assembler_answer, refusal, 169);
+ALERTC_AT_(assembler_answer, broken_at, 170);
 ALERTC_SIZE_(rds_group, 16);
 ALERTC_AT_(rds_group, tp, 2);
 ALERTC_AT_(rds_group, pty, 3);
@@ -738,6 +752,7 @@ ALERTC_AT_(table_reading, service, 136);
 ALERTC_AT_(table_reading, expiry, 140);
 ALERTC_AT_(table_reading, used, 144);
 ALERTC_AT_(table_reading, refusal, 145);
+ALERTC_AT_(table_reading, broken_at, 146);
 ALERTC_SIZE_(expiry_answer, 8);
 ALERTC_AT_(expiry_answer, refusal, 4);
 

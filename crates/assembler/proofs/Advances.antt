@@ -1,9 +1,8 @@
 -- A call without its report, beside the call.
-use Prim.Native.Nat.{ℕ}
 use mathlib.Core.Path.{_≡_, refl, sym, ap}
 use mathlib.Core.Bool.{Bool, true}
-use Rattle.bits.specs.Outcome.{Outcome, gives, refused}
-use Rattle.report.specs.declared.Report.{Report}
+use Rattle.bits.specs.Outcome.{gives, refused}
+use Rattle.report.specs.Read.{Reading}
 use Rattle.transmission.specs.Step.{completed}
 use Rattle.assembler.specs.declared.Assembler.{Assembler}
 use Rattle.assembler.specs.declared.Assembler.the-variants.{Empty}
@@ -18,7 +17,7 @@ pub state-kept : (a : Assembler) → fits a ≡ true → (taken : Bool) → adva
 state-kept a e taken = ap (λ (b : Assembler). advanced b taken) (sym (assembler-state a e))
 
 -- a message that is whole is taken if it is read
-pub whole-taken : (m : Outcome Report ℕ) → advanced Empty (isRead m) ≡ advanceOf (given (completed m))
+pub whole-taken : (m : Reading) → advanced Empty (isRead m) ≡ advanceOf (given (completed (gives m)))
 unfolding completed isRead isTaken answerOf assemblerOf
 whole-taken (gives r) = refl
-whole-taken (refused n) = refl
+whole-taken (refused x) = refl

@@ -12,9 +12,10 @@ use Rattle.location.specs.Flt.{fltFields, isFlt}
 use Rattle.content.specs.Widths.{widths, width}
 use Rattle.content.specs.Items.{first, labelled, valued, andThen, readBy, itemsWithin, items}
 use Rattle.content.specs.Content.{contentLength, content}
+use Rattle.report.specs.declared.Refusal.the-variants.{Plain}
 use Rattle.report.specs.Report.{firstWhere}
 use Rattle.report.specs.InterRoad.{interRoad, itemsAt}
-use Rattle.report.specs.Read.{readItems, readBits, readReport}
+use Rattle.report.specs.Read.{placed, readItems, readBits, readReport}
 use Rattle.transmission.specs.Step.{inTurn, completed, taken, later, stepBy, step}
 use Rattle.transmission.specs.Reachable.{countFits}
 use Rattle.assembler.specs.declared.Assembler.{Assembler}
@@ -29,15 +30,15 @@ use Rattle.assembler.specs.Samples.{opened401}
 
 -- names what the examples compute with
 unfoldable pub computing : Unit {0}
-unfolding bit num bits val allZero flat unpack inRange headFields laterFields kindOf kindBy multiBy isIndex widths width first labelled valued andThen readBy itemsWithin items contentLength content firstWhere fltFields isFlt interRoad itemsAt readItems readBits readReport inTurn completed taken later stepBy step countFits contentsOf stateOf partialOf assemblerOf contentFits partialFits fits answerOf reportIn stepOf calls
+unfolding bit num bits val allZero flat unpack inRange headFields laterFields kindOf kindBy multiBy isIndex widths width first labelled valued andThen readBy itemsWithin items contentLength content firstWhere fltFields isFlt interRoad itemsAt placed readItems readBits readReport inTurn completed taken later stepBy step countFits contentsOf stateOf partialOf assemblerOf contentFits partialFits fits answerOf reportIn stepOf calls
 computing = tt
 
 -- a tuning word, an administration word, one of CI 7 and a number that is no word leave the message open
 pub other-words : calls readReport opened401 (0x1000000001 ∷ 0x0000000002 ∷ 0x0700000003 ∷ 0x2000000000 ∷ [])
     ≡ withoutReport opened401 (answer.Tuning 0x1000000001)
     ∷ withoutReport opened401 (answer.Administration 0x0000000002)
-    ∷ withoutReport opened401 (answer.Refused 6)
-    ∷ withoutReport opened401 (answer.Refused 9)
+    ∷ withoutReport opened401 (answer.Refused (Plain 6))
+    ∷ withoutReport opened401 (answer.Refused (Plain 9))
     ∷ []
 unfolding computing
 other-words = refl
@@ -46,6 +47,6 @@ other-words = refl
 abbrev unreached : Assembler
 unreached = Started (record { ci = 2; head = head401; gsi = 1; count = 4; first = 0; second = 0; third = 0 })
 
-pub an-unreached-state : calls readReport unreached (single101 ∷ []) ≡ withoutReport unreached (answer.Refused 9) ∷ []
+pub an-unreached-state : calls readReport unreached (single101 ∷ []) ≡ withoutReport unreached (answer.Refused (Plain 9)) ∷ []
 unfolding computing
 an-unreached-state = refl

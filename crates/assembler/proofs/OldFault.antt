@@ -10,6 +10,7 @@ use Rattle.word.specs.declared.Head.{Head}
 use Rattle.word.specs.Samples.{single101, head101, first401, later401, head401}
 use Rattle.content.specs.Stored.{filled}
 use Rattle.report.specs.declared.Report.{Report}
+use Rattle.report.specs.declared.Refusal.the-variants.{Plain}
 use Rattle.report.specs.declared.Form.the-variants.{Multi}
 use Rattle.report.specs.Report.{singleReport}
 use Rattle.report.specs.Read.{readReport}
@@ -20,6 +21,7 @@ use Rattle.transmission.proofs.FewLost.{few-lost}
 use Rattle.transmission.proofs.Spacing.{by-test}
 use Rattle.assembler.specs.declared.Assembler.the-variants.{Empty}
 use Rattle.assembler.specs.declared.Answer.the-variants.{Nothing, Refused}
+use Rattle.assembler.specs.Reading.{numbered}
 use Rattle.assembler.specs.Answers.{withReport, withoutReport}
 use Rattle.assembler.specs.Calls.{calls, reportsOf}
 use Rattle.assembler.specs.Samples.{opened401}
@@ -50,7 +52,7 @@ abbrev heard : List ℕ
 heard = first401 ∷ single101 ∷ 0x0240A00000 ∷ []
 
 abbrev Formed : Message Report → Type 0
-Formed m = WellFormed singleReport readReport (m .groups) (m .report)
+Formed m = WellFormed singleReport (numbered readReport) (m .groups) (m .report)
 
 formed-closure : Formed closure
 unfolding computing
@@ -70,7 +72,7 @@ unfolding transmitting
 no-closure = demand3 readReport sent heard (formed-closure, (formed-other false, (formed-other false, (formed-other true, (formed-other false, (formed-other false, (formed-elsewhere, tt))))))) (by-test 5 sent refl) (few-lost 5 sent (lit< tt)) refl
 
 -- call by call: nothing yet; the report of the single word, which drops the open message; refusal 5
-pub call-by-call : calls readReport Empty heard ≡ withoutReport opened401 Nothing ∷ withReport report101 ∷ withoutReport Empty (Refused 5) ∷ []
+pub call-by-call : calls readReport Empty heard ≡ withoutReport opened401 Nothing ∷ withReport report101 ∷ withoutReport Empty (Refused (Plain 5)) ∷ []
 unfolding computing
 call-by-call = refl
 

@@ -8,13 +8,13 @@ use borrow.Author.Tests.{ltb-true, ltb-false, le-leb}
 use Rattle.bits.proofs.Choice.{passed-over}
 use Rattle.word.specs.Format.{limit}
 use Rattle.word.specs.Kind.{kindOf}
-use Rattle.report.specs.declared.Report.{Report}
-use Rattle.transmission.specs.Reading.{ReadsMulti}
+use Rattle.report.specs.declared.Refusal.the-variants.{Plain}
 use Rattle.transmission.specs.Step.{stepBy, step}
 use Rattle.transmission.specs.Demand3.{All}
 use Rattle.assembler.specs.declared.Assembler.{Assembler}
 use Rattle.assembler.specs.declared.Answer.the-variants.{Refused}
 use Rattle.assembler.specs.declared.Step.{Step}
+use Rattle.assembler.specs.Reading.{Reads}
 use Rattle.assembler.specs.Fits.{fits}
 use Rattle.assembler.specs.Answers.{answerOf, reportIn, withoutReport}
 use Rattle.assembler.specs.Step.{stepOf}
@@ -35,20 +35,20 @@ are-words (n ∷ words) = by-size (ltb n limit) refl (are-words words)
     by-size true e rest = (ltb-true n limit e, rest)
     by-size false e rest = rest
 
-module _ (read : ReadsMulti Report) where
+module _ (read : Reads) where
   -- a state that no calls reach
-  pub unreached-refused : (a : Assembler) (n : ℕ) → fits a ≡ false → stepOf read a n ≡ withoutReport a (Refused 9)
+  pub unreached-refused : (a : Assembler) (n : ℕ) → fits a ≡ false → stepOf read a n ≡ withoutReport a (Refused (Plain 9))
   unfolding stepOf
   unreached-refused a n e = passed-over _ _ _ e
 
   -- a number of 2^37 or more, from any state
-  pub no-word-refused : (a : Assembler) (n : ℕ) → limit ≤ n → stepOf read a n ≡ withoutReport a (Refused 9)
+  pub no-word-refused : (a : Assembler) (n : ℕ) → limit ≤ n → stepOf read a n ≡ withoutReport a (Refused (Plain 9))
   unfolding stepOf step stepBy kindOf answerOf reportIn
   no-word-refused a n h = by-state (fits a) refl
     where
-      by-state : (b : Bool) → fits a ≡ b → stepOf read a n ≡ withoutReport a (Refused 9)
+      by-state : (b : Bool) → fits a ≡ b → stepOf read a n ≡ withoutReport a (Refused (Plain 9))
       by-state false e = unreached-refused a n e
-      by-state true e = rw (e, le-leb limit n h) (sym (kept a e (Refused 9)))
+      by-state true e = rw (e, le-leb limit n h) (sym (kept a e (Refused (Plain 9))))
 
   only-words : (words : List ℕ) (a : Assembler) → after read a (wordsAmong words) ≡ after read a words
   unfolding wordsAmong after

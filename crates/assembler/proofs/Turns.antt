@@ -15,6 +15,7 @@ use Rattle.transmission.specs.Step.{nothing, leaving, strayed, inTurn, complete
 use Rattle.transmission.specs.Reachable.{countFits}
 use Rattle.assembler.specs.declared.Partial.{Partial}
 use Rattle.assembler.specs.declared.Assembler.the-variants.{Started}
+use Rattle.assembler.specs.Reading.{multiReads}
 use Rattle.assembler.specs.State.{contentsOf, stateOf, partialOf}
 use Rattle.assembler.specs.Fits.{contentFits}
 use Rattle.assembler.proofs.States.{Contents}
@@ -66,14 +67,14 @@ module _ (p : Partial) (ci second gsi content : ℕ) where
   abbrev turn : Bool
   turn = eqb (p .ci) ci && inTurn (p .gsi) (contentsOf p) second gsi
 
-  pub last-group : turn ≡ true → gsi ≡ 0 → completed (readReport (p .head) (contentsOf p ++ content ∷ [])) ≡ later readReport (stateOf (Started p)) ci second gsi content
+  pub last-group : turn ≡ true → gsi ≡ 0 → completed (multiReads readReport (p .head) (contentsOf p ++ content ∷ [])) ≡ later (multiReads readReport) (stateOf (Started p)) ci second gsi content
   unfolding later taken stateOf
   last-group t z = rw (t, z)
 
-  pub another-group : turn ≡ true → (gsi ≡ 0 → ⊥) → leaving (started (p .ci) (p .head) gsi (contentsOf p ++ content ∷ [])) nothing ≡ later readReport (stateOf (Started p)) ci second gsi content
+  pub another-group : turn ≡ true → (gsi ≡ 0 → ⊥) → leaving (started (p .ci) (p .head) gsi (contentsOf p ++ content ∷ [])) nothing ≡ later (multiReads readReport) (stateOf (Started p)) ci second gsi content
   unfolding later taken stateOf
   another-group t more = rw (t, ne-eqb gsi 0 more, eqb-true (p .ci) ci (and-left (eqb (p .ci) ci) (inTurn (p .gsi) (contentsOf p) second gsi) t))
 
-  pub stray-group : turn ≡ false → strayed ≡ later readReport (stateOf (Started p)) ci second gsi content
+  pub stray-group : turn ≡ false → strayed ≡ later (multiReads readReport) (stateOf (Started p)) ci second gsi content
   unfolding later stateOf
   stray-group t = rw t

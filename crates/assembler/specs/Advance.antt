@@ -1,8 +1,7 @@
 -- A call without its report: the next state, and whether the word is taken.
-use Prim.Native.Nat.{ℕ}
 use mathlib.Core.Bool.{Bool, true, false}
-use Rattle.bits.specs.Outcome.{Outcome, gives, refused}
-use Rattle.report.specs.declared.Report.{Report}
+use Rattle.bits.specs.Outcome.{gives, refused}
+use Rattle.report.specs.Read.{Reading}
 use Rattle.assembler.specs.declared.Assembler.{Assembler}
 use Rattle.assembler.specs.declared.Answer.{Answer}
 use Rattle.assembler.specs.declared.Answer.the-variants as answer
@@ -15,12 +14,12 @@ isTaken answer.Nothing = true
 isTaken answer.Report = true
 isTaken (answer.Tuning n) = true
 isTaken (answer.Administration n) = true
-isTaken (answer.Refused n) = false
+isTaken (answer.Refused x) = false
 
 -- a reading that is no refusal
-unfoldable pub isRead : Outcome Report ℕ → Bool
+unfoldable pub isRead : Reading → Bool
 isRead (gives r) = true
-isRead (refused n) = false
+isRead (refused x) = false
 
 abbrev pub advanced : Assembler → Bool → Advance
 advanced a taken = record { next = a; taken = taken }

@@ -4,16 +4,16 @@ use mathlib.Core.Path.{_≡_}
 use mathlib.Core.List.{List, [], _∷_}
 use Rattle.word.specs.Format.{limit}
 use Rattle.report.specs.declared.Report.{Report}
-use Rattle.transmission.specs.Reading.{ReadsMulti}
 use Rattle.transmission.specs.Demand3.{All}
 use Rattle.assembler.specs.declared.Assembler.{Assembler}
 use Rattle.assembler.specs.declared.Assembler.the-variants.{Empty}
 use Rattle.assembler.specs.declared.Answer.{Answer}
 use Rattle.assembler.specs.declared.Answer.the-variants as answer
 use Rattle.assembler.specs.declared.Step.{Step}
+use Rattle.assembler.specs.Reading.{Reads}
 use Rattle.assembler.specs.Step.{stepOf}
 
-module _ (read : ReadsMulti Report) where
+module _ (read : Reads) where
   -- what the calls give back, in order
   unfoldable pub calls : Assembler → List ℕ → List Step
   calls a [] = []
@@ -34,7 +34,7 @@ reportThen answer.Nothing r rs = rs
 reportThen answer.Report r rs = r ∷ rs
 reportThen (answer.Tuning n) r rs = rs
 reportThen (answer.Administration n) r rs = rs
-reportThen (answer.Refused n) r rs = rs
+reportThen (answer.Refused x) r rs = rs
 
 unfoldable pub reportsOf : List Step → List Report
 reportsOf [] = []

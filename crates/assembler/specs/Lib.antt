@@ -1,5 +1,6 @@
 pub mod State
 pub mod Fits
+pub mod Reading
 pub mod Answers
 pub mod Joining
 pub mod Step

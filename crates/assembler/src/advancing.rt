@@ -3,9 +3,9 @@
 ghost use mathlib.Core.Path.{_≡_};
 ghost use mathlib.Core.Bool.{true};
 ghost use mathlib.Core.List.{[], _∷_, _++_};
-ghost use Rattle.report.specs.Report.{singleReport};
 ghost use Rattle.report.specs.Read.{readReport};
 ghost use Rattle.transmission.specs.Step.{stepBy, later as Step·later};
+ghost use Rattle.assembler.specs.Reading.{singleReads, multiReads};
 ghost use Rattle.assembler.specs.State.{stateOf, contentsOf};
 ghost use Rattle.assembler.specs.Fits.{partialFits, fits};
 ghost use Rattle.assembler.specs.Answers.{given};
@@ -32,7 +32,7 @@ impl Assembler {
     // By the kind of the word.
     fn advance_by(self, word: Word) -> Advance
         requires { ⌜ fits self ≡ true ⌝ }
-        ensures { λ r. ⌜ r ≡ advanceOf (given (stepBy singleReport readReport (stateOf self) word)) ⌝ }
+        ensures { λ r. ⌜ r ≡ advanceOf (given (stepBy singleReads (multiReads readReport) (stateOf self) word)) ⌝ }
     {
         match word {
             Word::Single { .. } => advanced(Assembler::Empty, true),
@@ -56,7 +56,7 @@ impl Assembler {
     // By a later group.
     fn advance_later(self, ci: u8, second: u8, gsi: u8, content: u32) -> Advance
         requires { ⌜ fits self ≡ true ⌝ }
-        ensures { λ r. ⌜ r ≡ advanceOf (given (Step·later readReport (stateOf self) ci second gsi content)) ⌝ }
+        ensures { λ r. ⌜ r ≡ advanceOf (given (Step·later (multiReads readReport) (stateOf self) ci second gsi content)) ⌝ }
     {
         match self {
             Assembler::Empty => advanced(self, false),
@@ -68,7 +68,7 @@ impl Assembler {
 // By a later group while a message is open.
 fn advance_open(p: Partial, ci: u8, second: u8, gsi: u8, content: u32) -> Advance
     requires { ⌜ partialFits p ≡ true ⌝ }
-    ensures { λ r. ⌜ r ≡ advanceOf (given (Step·later readReport (stateOf (Assembler.Started p)) ci second gsi content)) ⌝ }
+    ensures { λ r. ⌜ r ≡ advanceOf (given (Step·later (multiReads readReport) (stateOf (Assembler.Started p)) ci second gsi content)) ⌝ }
 {
     if (p.ci == ci) & p.in_turn(second, gsi) {
         if gsi == 0 {

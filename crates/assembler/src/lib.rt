@@ -5,6 +5,7 @@ mod fits;
 mod join;
 mod turn;
 
+use report::Refusal;
 use report::Report;
 use word::Head;
 
@@ -38,8 +39,8 @@ pub enum Answer {
     Tuning(u64),
     // An administration word, handed on whole.
     Administration(u64),
-    // The number of a refusal.
-    Refused(u8),
+    // A refusal: its number, and where content breaks the place.
+    Refused(Refusal),
 }
 
 // The next state and the answer, with the report beside it: blank where there is none.

@@ -1,1 +1,2 @@
 pub mod UnitsBack
+pub mod Places

@@ -1,4 +1,5 @@
 pub mod Words
+pub mod Refusals
 pub mod Reports
 pub mod Carriers
 pub mod Tables

@@ -1,4 +1,5 @@
--- What the calls on the message table take and answer (include/alertc.h): on a refusal its number, and 0 elsewhere.
+-- What the calls on the message table take and answer (include/alertc.h): on a refusal its number, and 0 elsewhere; where content breaks the
+-- place.
 use Prim.Native.Nat.{ℕ}
 use mathlib.Core.Bool.{cond}
 use mathlib.Core.List.{List}
@@ -10,6 +11,7 @@ use Rattle.clock.specs.Answers as ends
 use Rattle.record.specs.declared.Service.{Service}
 use Rattle.record_report.specs.declared.Reading.{Reading}
 use Rattle.record_report.specs.declared.Answer.{Answer as Use}
+use Rattle.record_report.specs.declared.Answer.the-variants as uses
 use Rattle.record_report.specs.Answers as kept
 use Rattle.lent.specs.Lent.{lentFit}
 use Rattle.table.specs.declared.WhenFull.{WhenFull}
@@ -25,6 +27,7 @@ use Rattle.renewal.specs.declared.Answer.{Answer as Renewed}
 use Rattle.renewal.specs.Answers as renewal·
 use Rattle.c_values.specs.declared.reports.PlainReport.{PlainReport}
 use Rattle.c_values.specs.Reports.{reportFrom, plainOf}
+use Rattle.c_answers.specs.Refusals.{notBroken, placeTold}
 use Rattle.c_answers.specs.declared.tables.TableAnswer.{TableAnswer}
 use Rattle.c_answers.specs.declared.tables.Renewal.{Renewal}
 use Rattle.c_answers.specs.declared.tables.RecordReading.{RecordReading}
@@ -55,9 +58,16 @@ tableAnswer a =
 abbrev pub renewalTold : Renewed → Renewal
 renewalTold a = record { used = renewal·.usedOf a; refusal = renewal·.numberOf a }
 
+-- where the content of a record breaks
+abbrev pub brokenAt : Use → ℕ
+brokenAt uses.Free = notBroken
+brokenAt uses.Read = notBroken
+brokenAt (uses.Refused x) = placeTold x
+
 -- a report with its service and expiry, and whether the record is in use
 unfoldable pub readingWith : PlainReport → Service → ℕ → Use → RecordReading
-readingWith p service expiry a = record { report = p; service = service; expiry = expiry; used = kept.usedOf a; refusal = kept.numberOf a }
+readingWith p service expiry a =
+    record { report = p; service = service; expiry = expiry; used = kept.usedOf a; refusal = kept.numberOf a; broken = brokenAt a }
 
 abbrev pub recordReading : Reading → RecordReading
 recordReading r = readingWith (plainOf (r .report)) (r .service) (r .expiry .0) (r .answer)

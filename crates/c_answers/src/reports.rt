@@ -1,6 +1,9 @@
 // Reports and the assembler.
 ghost use mathlib.Core.Path.{_≡_};
 ghost use Rattle.c_answers.specs.Reports.{writtenBy, withoutReport, stepAnswer};
+use crate::refusals::NOT_BROKEN;
+use crate::refusals::broken_at;
+use crate::refusals::number_of;
 use assembler::Answer;
 use assembler::Partial;
 use assembler::Step;
@@ -28,7 +31,7 @@ impl Written {
 }
 
 // What a word gave: a kind, 0 nothing yet, 1 a report, 2 a tuning word, 3 an administration word, with the report or the word beside it, and the
-// assembler's next state, on a refusal too.
+// assembler's next state, on a refusal too; and where content breaks.
 #[repr(C)]
 pub struct AssemblerAnswer {
     pub report: PlainReport,
@@ -36,6 +39,7 @@ pub struct AssemblerAnswer {
     pub word: u64,
     pub kind: u8,
     pub refusal: u8,
+    pub broken: u8,
 }
 
 impl AssemblerAnswer {
@@ -46,7 +50,7 @@ impl AssemblerAnswer {
         let next = step.next;
         let answer = step.answer;
         match answer {
-            Answer::Nothing => without_report(state_of(next), 0, 0, 0),
+            Answer::Nothing => without_report(state_of(next), 0, 0, 0, NOT_BROKEN),
             Answer::Report => {
                 let report = step.report;
                 AssemblerAnswer {
@@ -55,17 +59,21 @@ impl AssemblerAnswer {
                     word: 0,
                     kind: 1,
                     refusal: 0,
+                    broken: NOT_BROKEN,
                 }
             }
-            Answer::Tuning(word) => without_report(state_of(next), word, 2, 0),
-            Answer::Administration(word) => without_report(state_of(next), word, 3, 0),
-            Answer::Refused(n) => without_report(state_of(next), 0, 0, n),
+            Answer::Tuning(word) => without_report(state_of(next), word, 2, 0, NOT_BROKEN),
+            Answer::Administration(word) => without_report(state_of(next), word, 3, 0, NOT_BROKEN),
+            Answer::Refused(refusal) => {
+                let number = number_of(refusal);
+                without_report(state_of(next), 0, 0, number, broken_at(refusal))
+            }
         }
     }
 }
 
-fn without_report(next: Partial, word: u64, kind: u8, refusal: u8) -> AssemblerAnswer
-    ensures { λ r. ⌜ r ≡ withoutReport next word kind refusal ⌝ }
+fn without_report(next: Partial, word: u64, kind: u8, refusal: u8, broken: u8) -> AssemblerAnswer
+    ensures { λ r. ⌜ r ≡ withoutReport next word kind refusal broken ⌝ }
 {
     AssemblerAnswer {
         report: PlainReport::of(Report::new()),
@@ -73,5 +81,6 @@ fn without_report(next: Partial, word: u64, kind: u8, refusal: u8) -> AssemblerA
         word,
         kind,
         refusal,
+        broken,
     }
 }

@@ -1,12 +1,17 @@
 // The message table.
 ghost use mathlib.Core.Path.{_≡_};
-ghost use Rattle.c_answers.specs.Tables.{choiceOf, chosenStep, chosenTable, tableAnswer, renewalTold, recordReading, expiryTold};
+ghost use Rattle.record_report.specs.Answers.{usedOf, numberOf};
+ghost use Rattle.c_answers.specs.Tables.{choiceOf, chosenStep, chosenTable, tableAnswer, renewalTold, brokenAt, recordReading, expiryTold};
+use crate::refusals::NOT_BROKEN;
+use crate::refusals::broken_at;
+use crate::refusals::number_of;
 use c_values::reports::PlainReport;
 use checks::Arrival;
 use clock::Expiry;
 use clock::Utc;
 use lent::lent_fit;
 use record::Service;
+use record_report::Answer as Kept;
 use record_report::Reading;
 use table::Answer;
 use table::Step;
@@ -125,7 +130,7 @@ impl Renewal {
     }
 }
 
-// A record's report, service and expiry; whether it is in use (1, else 0).
+// A record's report, service and expiry; whether it is in use (1, else 0); and where its content breaks.
 #[repr(C)]
 pub struct RecordReading {
     pub report: PlainReport,
@@ -133,6 +138,7 @@ pub struct RecordReading {
     pub expiry: u32,
     pub used: u8,
     pub refusal: u8,
+    pub broken: u8,
 }
 
 impl RecordReading {
@@ -143,24 +149,44 @@ impl RecordReading {
         let service = reading.service;
         let expiry = reading.expiry;
         let answer = reading.answer;
-        let mut r = RecordReading {
+        RecordReading {
             report: PlainReport::of(report),
             service,
             expiry: expiry.0,
-            used: 0,
-            refusal: 0,
-        };
-        match answer {
-            record_report::Answer::Free => r,
-            record_report::Answer::Read => {
-                r.used = 1;
-                r
-            }
-            record_report::Answer::Refused(n) => {
-                r.refusal = n;
-                r
-            }
+            used: used_in(answer),
+            refusal: refusal_in(answer),
+            broken: broken_in(answer),
         }
+    }
+}
+
+fn used_in(answer: Kept) -> u8
+    ensures { λ n. ⌜ n ≡ usedOf answer ⌝ }
+{
+    match answer {
+        Kept::Free => 0,
+        Kept::Read => 1,
+        Kept::Refused(_) => 0,
+    }
+}
+
+fn refusal_in(answer: Kept) -> u8
+    ensures { λ n. ⌜ n ≡ numberOf answer ⌝ }
+{
+    match answer {
+        Kept::Free => 0,
+        Kept::Read => 0,
+        Kept::Refused(refusal) => number_of(refusal),
+    }
+}
+
+fn broken_in(answer: Kept) -> u8
+    ensures { λ n. ⌜ n ≡ brokenAt answer ⌝ }
+{
+    match answer {
+        Kept::Free => NOT_BROKEN,
+        Kept::Read => NOT_BROKEN,
+        Kept::Refused(refusal) => broken_at(refusal),
     }
 }
 

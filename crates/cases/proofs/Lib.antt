@@ -1,3 +1,4 @@
 pub mod Hold
 pub mod InterRoad
+pub mod Broken
 pub mod Fibs

@@ -8,7 +8,9 @@ use lib.IntN.{pos, negsuc}
 use lib.ListN.{length, drop, replicate}
 use Rattle.bits.specs.Outcome.{gives, refused}
 use Rattle.word.specs.Samples.{single101, first401, later401, stray401, head401}
+use Rattle.content.specs.declared.read.Unread.the-variants.{Unfit}
 use Rattle.content.specs.Content.{content}
+use Rattle.report.specs.declared.Refusal.the-variants.{Plain, Broken}
 use Rattle.report.specs.Report.{multiReport}
 use Rattle.report.specs.Read.{readBits, readReport}
 use Rattle.report.specs.Samples.{report101, report401}
@@ -38,12 +40,12 @@ cases =
     ∷ case 2 (calls readReport Empty (first401 ∷ later401 ∷ [])) (withoutReport opened401 Nothing ∷ withReport report401 ∷ [])
     ∷ case 3 (readFig pairFig 2) (fig.Taken fig1 2)
     ∷ case 3 (wordsAfter (readFig pairFig 2) (drop headerLength pairFig) (replicate 2 0)) (first401 ∷ later401 ∷ [])
-    ∷ case 4 (calls readReport Empty (later401 ∷ [])) (withoutReport Empty (Refused 5) ∷ [])
-    ∷ case 4 (calls readReport Empty (first401 ∷ stray401 ∷ [])) (withoutReport opened401 Nothing ∷ withoutReport Empty (Refused 5) ∷ [])
+    ∷ case 4 (calls readReport Empty (later401 ∷ [])) (withoutReport Empty (Refused (Plain 5)) ∷ [])
+    ∷ case 4 (calls readReport Empty (first401 ∷ stray401 ∷ [])) (withoutReport opened401 Nothing ∷ withoutReport Empty (Refused (Plain 5)) ∷ [])
     ∷ case 5 (content (replicate 28 false)) (gives [])
-    ∷ case 5 (content (replicate 28 true)) (refused 8)
+    ∷ case 5 (content (replicate 28 true)) (refused (Unfit 8 28))
     ∷ case 5 (readBits head401 (replicate 28 false)) (gives (multiReport head401 0 []))
-    ∷ case 5 (readBits head401 (replicate 28 true)) (refused 8)
+    ∷ case 5 (readBits head401 (replicate 28 true)) (refused (Broken 8 0))
     ∷ case 6 (systemOf 0x0466) (system.Taken (Table 17 1 0 0 1 1 0))
     ∷ case 7 (readUnit (checked (replicate 6 0)) 27) (drm.Taken bare 1)
     ∷ case 7 (readUnit (checked (replicate 7 0)) 27) (drm.Refused 1)

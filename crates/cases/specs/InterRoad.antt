@@ -9,6 +9,7 @@ use Rattle.word.specs.Samples.{head101}
 use Rattle.content.specs.declared.item.Item.{Item}
 use Rattle.content.specs.Stored.{filled}
 use Rattle.report.specs.declared.Report.{Report}
+use Rattle.report.specs.declared.Refusal.the-variants.{Broken}
 use Rattle.report.specs.declared.Form.the-variants.{Single}
 use Rattle.report.specs.Report.{singleReport, multiReport}
 use Rattle.report.specs.Read.{readReport}
@@ -67,7 +68,7 @@ interRoadCases =
     ∷ case 7 (heard (0x0B5065FF41 ∷ [])) (singleForeign ∷ [])
     ∷ case 7 (wordsOf 0 singleForeign) (0x0B5065FF41 ∷ [])
     ∷ case 8 (heard (0x028991FFFD ∷ 0x0243502000 ∷ [])) (multiReport (headAt 0xFFFD) 0x3502 [] ∷ [])
-    ∷ case 9 (answers (first ∷ 0x02401F4AFF ∷ [])) (Nothing ∷ Refused 7 ∷ [])
+    ∷ case 9 (answers (first ∷ 0x02401F4AFF ∷ [])) (Nothing ∷ Refused (Broken 7 16) ∷ [])
     ∷ case 9 (after readReport Empty (first ∷ 0x02401F4AFF ∷ [])) Empty
     ∷ case 10 (writeReport 2 (multiReport (headAt 500) 1 []) 5) (writing.Refused 9)
     ∷ case 10 (writeReport 0 misplaced 5) (writing.Refused 9)

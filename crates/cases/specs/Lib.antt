@@ -2,4 +2,5 @@ pub mod Case
 pub mod Samples
 pub mod Cases
 pub mod InterRoad
+pub mod Broken
 pub mod Fibs

@@ -11,12 +11,13 @@ use Rattle.bits.specs.Outcome.{gives, refused}
 use Rattle.bits.proofs.Choice.{either}
 use Rattle.content.specs.Items.{First, item, unfit, first, Reading, prepend, andThen, readBy, itemsWithin, items}
 use Rattle.content.specs.declared.item.Item.{Item}
+use Rattle.content.specs.declared.read.Unread.the-variants.{Unfit}
 use Rattle.content.proofs.FirstLaw.{first-shorter}
 
 andThen-same : (x : First) (f g : List Bool → Reading) → ((i : Item) (rest : List Bool) → x ≡ item i rest → f rest ≡ g rest) → andThen x f ≡ andThen x g
 unfolding andThen
 andThen-same (item i rest) f g same = ap (prepend i) (same i rest refl)
-andThen-same (unfit n) f g same = refl
+andThen-same (unfit n left) f g same = refl
 
 -- a reading asks its `next` only of shorter bits
 readBy-same : (l : List Bool) (f g : List Bool → Reading) → ((rest : List Bool) → length rest < length l → f rest ≡ g rest) → readBy f l ≡ readBy g l
@@ -42,9 +43,9 @@ pub items-zero : (l : List Bool) → allZero l ≡ true → items l ≡ gives []
 unfolding readBy
 items-zero l z = items-law l ∙ rw (z, readBy)
 
-pub items-unfit : (l : List Bool) (n : ℕ) → allZero l ≡ false → first l ≡ unfit n → items l ≡ refused n
+pub items-unfit : (l : List Bool) (n left : ℕ) → allZero l ≡ false → first l ≡ unfit n left → items l ≡ refused (Unfit n left)
 unfolding readBy andThen
-items-unfit l n z e = items-law l ∙ rw (z, readBy) (rw e)
+items-unfit l n left z e = items-law l ∙ rw (z, readBy) (rw e)
 
 pub items-item : (l : List Bool) (i : Item) (rest : List Bool) → allZero l ≡ false → first l ≡ item i rest → items l ≡ prepend i (items rest)
 unfolding readBy andThen

@@ -13,12 +13,13 @@ use Rattle.bits.proofs.Choice.{either}
 use Rattle.content.specs.Items.{items}
 use Rattle.content.specs.Content.{contentLength, content}
 use Rattle.content.specs.Packing.{longest, groupBits, room}
+use Rattle.content.specs.declared.read.Unread.the-variants.{TooLong}
 
 pub content-items : (l : List Bool) → length l ≤ longest → content l ≡ items l
 unfolding content
 content-items l h = rw (le-leb (length l) longest h, content)
 
-pub content-refused : (l : List Bool) → longest < length l → content l ≡ refused 1
+pub content-refused : (l : List Bool) → longest < length l → content l ≡ refused TooLong
 unfolding content
 content-refused l h = rw (lt-leb (length l) longest h, content)
 

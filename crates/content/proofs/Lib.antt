@@ -14,4 +14,5 @@ pub mod Reader
 pub mod WidthRuns
 pub mod Prepending
 pub mod PackedIsRead
+pub mod Broken
 pub mod Numbers

@@ -17,25 +17,25 @@ use Rattle.content.specs.declared.item.Item.{Item}
 use Rattle.content.proofs.FirstLaw.{first-taking}
 use Rattle.bits.proofs.Choice.{and-left, and-right}
 
-pub first-short : (l : List Bool) → length l < labelWidth → first l ≡ unfit 7
+pub first-short : (l : List Bool) → length l < labelWidth → first l ≡ unfit 7 (length l)
 unfolding first
 first-short l h = rw (lt-ltb (length l) labelWidth h, first)
 
 module _ (l : List Bool) (long : labelWidth ≤ length l) (label : ℕ) (e : label ≡ val (take labelWidth l)) where
-  first-labelled : first l ≡ labelled label (drop labelWidth l)
+  first-labelled : first l ≡ labelled (length l) label (drop labelWidth l)
   unfolding first
-  first-labelled = rw (le-ltb (length l) labelWidth long, first) (ap (λ (n : ℕ). labelled n (drop labelWidth l)) (sym e))
+  first-labelled = rw (le-ltb (length l) labelWidth long, first) (ap (λ (n : ℕ). labelled (length l) n (drop labelWidth l)) (sym e))
 
-  pub first-sublabelled : label ≡ sublabelled → first l ≡ unfit 8
+  pub first-sublabelled : label ≡ sublabelled → first l ≡ unfit 8 (length l)
   unfolding labelled
   first-sublabelled s = first-labelled ∙ rw (eq-eqb label sublabelled s, labelled)
 
   module _ (plain : label ≡ sublabelled → ⊥) where
-    first-valued : first l ≡ valued label (drop labelWidth l)
+    first-valued : first l ≡ valued (length l) label (drop labelWidth l)
     unfolding labelled
     first-valued = first-labelled ∙ rw (ne-eqb label sublabelled plain, labelled)
 
-    pub first-cut : length (drop labelWidth l) < width label → first l ≡ unfit 7
+    pub first-cut : length (drop labelWidth l) < width label → first l ≡ unfit 7 (length l)
     unfolding valued
     first-cut h = first-valued ∙ rw (lt-ltb (length (drop labelWidth l)) (width label) h, valued)
 

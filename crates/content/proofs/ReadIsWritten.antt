@@ -68,7 +68,7 @@ packed-first : (l : List Bool) (its : List Item) (x : First) → allZero l ≡ f
     → ((rest : List Bool) (js : List Item) → length rest < length l → items rest ≡ gives js → PackedIn rest js) → PackedIn l its
 packed-first l its (item i rest) n e h more =
     packed-after l i rest (items rest) its n e (λ js k. more rest js (let s = first-shorter l i rest e in omega arith) k) (sym (items-item l i rest n e) ∙ h)
-packed-first l its (unfit k) n e h more = absurd (refused-gives-none (sym (items-unfit l k n e) ∙ h))
+packed-first l its (unfit k left) n e h more = absurd (refused-gives-none (sym (items-unfit l k left n e) ∙ h))
 
 -- by the number of bits
 packed-within : (k : ℕ) (l : List Bool) (its : List Item) → length l < k → items l ≡ gives its → PackedIn l its

@@ -16,19 +16,22 @@ use Rattle.content.specs.declared.rest.Taken.the-variants as taken
 use Rattle.content.specs.declared.read.Reading as read
 use Rattle.content.specs.declared.read.ReadAnswer.{ReadAnswer}
 use Rattle.content.specs.declared.read.ReadAnswer.the-variants as readAnswer
+use Rattle.content.specs.declared.read.Unread.{Unread}
+use Rattle.content.specs.declared.read.Unread.the-variants as unread
+use Rattle.content.specs.declared.read.Unread.the-variants.{Unfit}
 use Rattle.content.specs.declared.pack.Packed.{Packed}
 use Rattle.content.specs.declared.pack.PackAnswer.{PackAnswer}
 use Rattle.content.specs.declared.pack.PackAnswer.the-variants as packAnswer
 
--- what taking one item answers: each case's values, or the refusal's number
+-- what taking one item answers: each case's values
 unfoldable pub firstOf : Taken → First
 firstOf (taken.Item i rest) = item i (remaining rest)
-firstOf (taken.Refused n) = unfit n
+firstOf (taken.Unfit n left) = unfit n left
 
 -- how many bits it leaves
 unfoldable pub leftOf : Taken → ℕ
 leftOf (taken.Item i rest) = rest .left
-leftOf (taken.Refused n) = 0
+leftOf (taken.Unfit n left) = left
 
 -- items before those of a reading
 abbrev pub appended : List Item → Reading → Reading
@@ -37,12 +40,12 @@ appended before = mapped (λ its. before ++ its)
 -- what the reader answers; on a refusal there are no items
 unfoldable pub readingOf : Reading → read.Reading
 readingOf (gives its) = record { answer = readAnswer.Read; items = filled its }
-readingOf (refused n) = record { answer = readAnswer.Refused n; items = filled [] }
+readingOf (refused u) = record { answer = readAnswer.Refused u; items = filled [] }
 
--- what the number that reading into cells answers tells of the items in them then: 0, they are those read; else it is the refusal's
-unfoldable pub Told : Reading → ℕ → Items → Type 0
-Told (gives its) r s = (r ≡ 0) × (s ≡ filled its)
-Told (refused n) r s = (r ≡ n) × (0 < n)
+-- what reading into cells tells: 0, and the items in the cells then are those read; else the refusal's number, and the bits left then
+unfoldable pub Told : Reading → (n left : ℕ) → Items → Type 0
+Told (gives its) n left s = (n ≡ 0) × (s ≡ filled its)
+Told (refused u) n left s = (Unfit n left ≡ u) × (0 < n)
 
 -- items packed: how many bits, and the bits
 unfoldable pub packed : List Item → Packed
@@ -62,9 +65,13 @@ unfoldable pub packedOf : Items → Packed
 packedOf s = packedIf (wellPlaced s && writable (listed s)) (listed s)
 
 -- what each answer tells: the refusal's number, 0 where there is none, and of the packer's the number of bits, 0 on a refusal
+abbrev pub numberOf : Unread → ℕ
+numberOf unread.TooLong = 1
+numberOf (unread.Unfit n left) = n
+
 abbrev pub readRefusal : ReadAnswer → ℕ
 readRefusal readAnswer.Read = 0
-readRefusal (readAnswer.Refused n) = n
+readRefusal (readAnswer.Refused u) = numberOf u
 
 abbrev pub packRefusal : PackAnswer → ℕ
 packRefusal (packAnswer.Packed n) = 0

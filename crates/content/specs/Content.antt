@@ -7,6 +7,7 @@ use lib.Dec.{eqb, leb}
 use Rattle.bits.specs.Outcome.{refused}
 use Rattle.content.specs.Items.{Reading, items}
 use Rattle.content.specs.Packing.{longest}
+use Rattle.content.specs.declared.read.Unread.the-variants.{TooLong}
 
 -- the content bits of two to five groups
 unfoldable pub contentLength : ℕ → Bool
@@ -14,4 +15,4 @@ contentLength n = eqb n 28 || eqb n 56 || eqb n 84 || eqb n 112
 
 -- the items of content bits, no more of them than five groups have
 unfoldable pub content : List Bool → Reading
-content l = elim (leb (length l) longest) [ true ↦ items l | false ↦ refused 1 ]
+content l = elim (leb (length l) longest) [ true ↦ items l | false ↦ refused TooLong ]

@@ -8,31 +8,38 @@ use Rattle.bits.specs.Bits.{val, allZero}
 use Rattle.bits.specs.Outcome.{Outcome, gives, refused, mapped}
 use Rattle.content.specs.Widths.{labelWidth, width, sublabelled}
 use Rattle.content.specs.declared.item.Item.{Item}
+use Rattle.content.specs.declared.read.Unread.{Unread}
+use Rattle.content.specs.declared.read.Unread.the-variants.{Unfit}
 
--- one item and the bits after it, or the refusal's number
+-- one item and the bits after it; or the refusal's number and how many bits are left where the item begins
 pub data First : Type 0 where
   item : Item → List Bool → First
-  unfit : ℕ → First
+  unfit : ℕ → ℕ → First
 
--- the value after a label
-unfoldable pub valued : ℕ → List Bool → First
-valued label l =
-    elim (ltb (length l) (width label)) [
-      | true ↦ unfit 7
-      | false ↦ item (record { label = label; value = val (take (width label) l) }) (drop (width label) l)
-    ]
+module _ (left : ℕ) where
+  -- the value after a label, of an item that begins where so many bits are left
+  unfoldable pub valued : ℕ → List Bool → First
+  valued label l =
+      elim (ltb (length l) (width label)) [
+        | true ↦ unfit 7 left
+        | false ↦ item (record { label = label; value = val (take (width label) l) }) (drop (width label) l)
+      ]
 
--- what follows a label
-unfoldable pub labelled : ℕ → List Bool → First
-labelled label l = elim (eqb label sublabelled) [ true ↦ unfit 8 | false ↦ valued label l ]
+  -- what follows its label
+  unfoldable pub labelled : ℕ → List Bool → First
+  labelled label l = elim (eqb label sublabelled) [ true ↦ unfit 8 left | false ↦ valued label l ]
 
 -- one item off the front
 unfoldable pub first : List Bool → First
-first l = elim (ltb (length l) labelWidth) [ true ↦ unfit 7 | false ↦ labelled (val (take labelWidth l)) (drop labelWidth l) ]
+first l =
+    elim (ltb (length l) labelWidth) [
+      | true ↦ unfit 7 (length l)
+      | false ↦ labelled (length l) (val (take labelWidth l)) (drop labelWidth l)
+    ]
 
--- the items that content holds, or the refusal's number
+-- the items that content holds, or why it does not read
 abbrev pub Reading : Type 0
-Reading = Outcome (List Item) ℕ
+Reading = Outcome (List Item) Unread
 
 -- an item before those of a reading
 abbrev pub prepend : Item → Reading → Reading
@@ -41,7 +48,7 @@ prepend i = mapped (λ its. i ∷ its)
 -- one item, and then the reading of the rest
 unfoldable pub andThen : First → (List Bool → Reading) → Reading
 andThen (item i rest) next = prepend i (next rest)
-andThen (unfit n) next = refused n
+andThen (unfit n left) next = refused (Unfit n left)
 
 -- all zero: no items; else one item, and then the reading of the rest
 unfoldable pub readBy : (List Bool → Reading) → List Bool → Reading

@@ -14,10 +14,18 @@ use crate::items::Items;
 use crate::rest::Rest;
 use crate::rest::Taken;
 
-// Whether content was read, or the refusal's number.
+// Why bits do not read as items.
+pub enum Unread {
+    // They are more than the longest content has: refusal 1.
+    TooLong,
+    // An item cannot be taken: the refusal's number, and how many bits are left where the item begins.
+    Unfit { number: u8, left: u8 },
+}
+
+// Whether content was read.
 pub enum ReadAnswer {
     Read,
-    Refused(u8),
+    Refused(Unread),
 }
 
 // The answer, and the items beside it: none on a refusal.
@@ -26,36 +34,39 @@ pub struct Reading {
     pub items: Items,
 }
 
-// Reads the items of the first `size` bits: 1 if they are more than the longest content has, 7 where bits of an item are missing, 8 at label 15.
+// Reads the items of the first `size` bits: 1 if they are more than the longest content has, 7 where bits of an item are missing, 8 at label
+// 15, both with the bits left where the item begins.
 pub fn read(c: Content, size: usize) -> Reading
     ensures { λ r. ⌜ r ≡ readingOf (content (take size (bitsOf c))) ⌝ }
 {
     if Content::LONGEST < size {
-        return Reading::refused(1);
+        return Reading::refused(Unread::TooLong);
     }
+    let mut left = 0;
     let mut count = 0;
     let mut cells = [0u16; Items::CELLS];
     let rest = Rest {
         bits: c,
         left: size,
     };
-    let refused = read_rest(rest, &mut count, &mut cells);
-    if refused == 0 {
+    let number = read_rest(rest, &mut left, &mut count, &mut cells);
+    if number == 0 {
         Reading {
             answer: ReadAnswer::Read,
             items: Items::from_cells(count, &cells),
         }
     } else {
-        Reading::refused(refused)
+        Reading::refused(Unread::Unfit { number, left })
     }
 }
 
-// The items found, and then those of the rest: one item and then the reading of the rest after one item. Answers the refusal's number, or 0.
-// The items go into lent cells: a struct by value would be copied at each turn.
-fn read_rest(rest: Rest, count: &mut usize, cells: &mut [u16; Items::CELLS]) -> u8
+// The items found, and then those of the rest: one item and then the reading of the rest after one item. Answers the refusal's number with the
+// bits left where the item begins, or 0.
+// What is told besides the number goes into lent cells: a struct or an enum by value would be copied at each turn.
+fn read_rest(rest: Rest, left: &mut u8, count: &mut usize, cells: &mut [u16; Items::CELLS]) -> u8
     requires { ⌜ (length (now cells) ≡ 2 * limit) × (4 * now count + rest .left ≤ longest) × (filled (listed (inCells (now count) (now cells))) ≡ inCells (now count) (now cells)) ⌝ }
     ensures { λ _. ⌜ length (now (cells .exit)) ≡ 2 * limit ⌝ }
-    ensures { λ r. ⌜ Told (appended (listed (inCells (now (count .entry)) (now (cells .entry)))) (items (remaining rest))) r (inCells (now (count .exit)) (now (cells .exit))) ⌝ }
+    ensures { λ r. ⌜ Told (appended (listed (inCells (now (count .entry)) (now (cells .entry)))) (items (remaining rest))) r (now (left .exit)) (inCells (now (count .exit)) (now (cells .exit))) ⌝ }
 {
     if rest.is_zero() {
         return 0;
@@ -66,9 +77,12 @@ fn read_rest(rest: Rest, count: &mut usize, cells: &mut [u16; Items::CELLS]) -> 
             cells[2 * n] = item.label;
             cells[2 * n + 1] = item.value;
             *count = n + 1;
-            read_rest(next, count, cells)
+            read_rest(next, left, count, cells)
         }
-        Taken::Refused(n) => n,
+        Taken::Unfit { number, left: here } => {
+            *left = here;
+            number
+        }
     }
 }
 
@@ -92,17 +106,17 @@ fn rest_reads(rest: Rest) -> bool
     }
     match rest.take_item() {
         Taken::Item(_, next) => rest_reads(next),
-        Taken::Refused(_) => false,
+        Taken::Unfit { .. } => false,
     }
 }
 
 impl Reading {
-    // The refusal's number, and no items.
-    fn refused(n: u8) -> Self
-        ensures { λ r. ⌜ r ≡ readingOf (refused n) ⌝ }
+    // A refusal has no items.
+    fn refused(unread: Unread) -> Self
+        ensures { λ r. ⌜ r ≡ readingOf (refused unread) ⌝ }
     {
         Reading {
-            answer: ReadAnswer::Refused(n),
+            answer: ReadAnswer::Refused(unread),
             items: Items::new(),
         }
     }

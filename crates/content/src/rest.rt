@@ -16,10 +16,10 @@ pub struct Rest {
     pub left: usize,
 }
 
-// An item and the bits after it, or the refusal's number.
+// An item and the bits after it; or the refusal's number, and how many bits are left where the item begins.
 pub enum Taken {
     Item(Item, Rest),
-    Refused(u8),
+    Unfit { number: u8, left: u8 },
 }
 
 impl Rest {
@@ -54,29 +54,41 @@ impl Rest {
         }
     }
 
-    // Takes one item: 7 where its bits are missing, 8 at label 15.
+    // Takes one item: 7 where its bits are missing, 8 at label 15, both with all the bits that are left.
     pub fn take_item(self) -> Taken
         requires { ⌜ self .left < 128 ⌝ }
         ensures { λ r. ⌜ (firstOf r ≡ first (remaining self)) × (leftOf r ≤ self .left) ⌝ }
     {
         if self.left < Item::LABEL_WIDTH {
-            return Taken::Refused(7);
+            return self.unfit(7);
         }
         let label = self.head(Item::LABEL_WIDTH) as u16;
         if label == Item::SUBLABELLED {
-            return Taken::Refused(8);
+            return self.unfit(8);
         }
         let after = self.tail(Item::LABEL_WIDTH);
         let w = width_of(label);
         if after.left < w {
-            return Taken::Refused(7);
+            self.unfit(7)
+        } else {
+            Taken::Item(
+                Item {
+                    label,
+                    value: after.head(w) as u16,
+                },
+                after.tail(w),
+            )
         }
-        Taken::Item(
-            Item {
-                label,
-                value: after.head(w) as u16,
-            },
-            after.tail(w),
-        )
+    }
+
+    // No item begins here: the refusal's number.
+    fn unfit(self, number: u8) -> Taken
+        requires { ⌜ self .left < 128 ⌝ }
+        ensures { λ r. ⌜ r ≡ Taken.Unfit number (self .left) ⌝ }
+    {
+        Taken::Unfit {
+            number,
+            left: self.left as u8,
+        }
     }
 }

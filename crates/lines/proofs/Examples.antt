@@ -2,9 +2,10 @@
 use mathlib.Core.Path.{_≡_, refl}
 use mathlib.Core.List.{[], _∷_}
 use Rattle.content.specs.Stored.{filled}
+use Rattle.report.specs.declared.Refusal.the-variants.{Plain, Broken}
 use Rattle.report.specs.Report.{singleReport}
 use Rattle.lines.specs.Decimal.{spelled, decimal}
-use Rattle.lines.specs.Line.{fields, line, reportLine, refusalLine}
+use Rattle.lines.specs.Line.{fields, line, reportLine, marked, refusalLine}
 
 -- 0, 10 and the largest location
 pub zero-is : decimal 0 ≡ 48 ∷ []
@@ -27,6 +28,15 @@ unfolding filled decimal spelled fields line
 a-report = refl
 
 -- `! 3 1`
-pub a-refusal : refusalLine 3 1 ≡ 33 ∷ 32 ∷ 51 ∷ 32 ∷ 49 ∷ 10 ∷ []
-unfolding decimal spelled fields refusalLine
+pub a-refusal : refusalLine 3 (Plain 1) ≡ 33 ∷ 32 ∷ 51 ∷ 32 ∷ 49 ∷ 10 ∷ []
+unfolding decimal spelled fields marked refusalLine
 a-refusal = refl
+
+-- `! 3 7 24` and `! 3 8 0`
+pub broken-content : refusalLine 3 (Broken 7 24) ≡ 33 ∷ 32 ∷ 51 ∷ 32 ∷ 55 ∷ 32 ∷ 50 ∷ 52 ∷ 10 ∷ []
+unfolding decimal spelled fields marked refusalLine
+broken-content = refl
+
+pub broken-at-once : refusalLine 3 (Broken 8 0) ≡ 33 ∷ 32 ∷ 51 ∷ 32 ∷ 56 ∷ 32 ∷ 48 ∷ 10 ∷ []
+unfolding decimal spelled fields marked refusalLine
+broken-at-once = refl

@@ -8,7 +8,7 @@ use lib.ListN.{length, getD, drop, length-append}
 use lib.Seq.{drop-cons}
 use Rattle.lines.specs.Decimal.{decimal}
 use Rattle.report.specs.declared.Form.{Form}
-use Rattle.lines.specs.Line.{space, newline, fields, formText, line, refusalLine, room}
+use Rattle.lines.specs.Line.{space, newline, fields, formText, line, marked, room}
 use Rattle.lines.proofs.Decimals.{decimal-length}
 
 -- a number of 64 bits has at most 20 digits
@@ -31,10 +31,9 @@ line-length n f vs =
     length-append (decimal n ++ formText f ++ fields vs) (newline ∷ [])
     ∙ ap (λ (k : ℕ). k + 1) (length-append (decimal n ++ formText f) (fields vs) ∙ ap (λ (k : ℕ). k + length (fields vs)) (length-append (decimal n) (formText f)))
 
-pub refusal-length : (r n : ℕ) → length (refusalLine r n) ≡ 1 + length (fields (r ∷ n ∷ [])) + 1
-unfolding refusalLine
-refusal-length r n =
-    length-append ((33 ∷ []) ++ fields (r ∷ n ∷ [])) (newline ∷ []) ∙ ap (λ (k : ℕ). k + 1) (length-append (33 ∷ []) (fields (r ∷ n ∷ [])))
+pub marked-length : (vs : List ℕ) → length (marked vs) ≡ 1 + length (fields vs) + 1
+unfolding marked
+marked-length vs = length-append ((33 ∷ []) ++ fields vs) (newline ∷ []) ∙ ap (λ (k : ℕ). k + 1) (length-append (33 ∷ []) (fields vs))
 
 no-fields : length (fields []) ≤ 0
 unfolding fields
@@ -42,6 +41,12 @@ no-fields = omega arith
 
 pub two-fields : (a b : ℕ) → a < 2 ^ 64 → b < 2 ^ 64 → length (fields (a ∷ b ∷ [])) ≤ 42
 two-fields a b ha hb = fields-more 21 a (b ∷ []) ha (fields-more 0 b [] hb no-fields)
+
+pub two-fit : (a b : ℕ) → a < 2 ^ 64 → b < 2 ^ 64 → length (marked (a ∷ b ∷ [])) ≤ room
+two-fit a b ha hb = omega (arith, two-fields a b ha hb, marked-length (a ∷ b ∷ []))
+
+pub three-fit : (a b c : ℕ) → a < 2 ^ 64 → b < 2 ^ 64 → c < 2 ^ 64 → length (marked (a ∷ b ∷ c ∷ [])) ≤ room
+three-fit a b c ha hb hc = omega (arith, fields-more 42 a (b ∷ c ∷ []) ha (two-fields b c hb hc), marked-length (a ∷ b ∷ c ∷ []))
 
 pub line-fits : (n a b c d e f g : ℕ) (form : Form) → n < 2 ^ 64 → a < 2 ^ 64 → b < 2 ^ 64 → c < 2 ^ 64 → d < 2 ^ 64 → e < 2 ^ 64 → f < 2 ^ 64 → g < 2 ^ 64 → length (line n form (a ∷ b ∷ c ∷ d ∷ e ∷ f ∷ g ∷ [])) ≤ room
 line-fits n a b c d e f g form hn ha hb hc hd he hf hg =

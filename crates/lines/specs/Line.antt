@@ -2,6 +2,8 @@
 use Prim.Native.Nat.{ℕ}
 use mathlib.Core.List.{List, [], _∷_, _++_}
 use Rattle.report.specs.declared.Report.{Report}
+use Rattle.report.specs.declared.Refusal.{Refusal}
+use Rattle.report.specs.declared.Refusal.the-variants.{Plain, Broken}
 use Rattle.report.specs.declared.Form.{Form}
 use Rattle.report.specs.declared.Form.the-variants.{Single, Multi}
 use Rattle.lines.specs.Decimal.{decimal}
@@ -42,9 +44,14 @@ line number form vs = decimal number ++ formText form ++ fields vs ++ newline �
 abbrev pub reportLine : ℕ → Report → List ℕ
 reportLine number r = line number (r .form) (values r)
 
--- `! R N`: the frame's number, the refusal
-unfoldable pub refusalLine : ℕ → ℕ → List ℕ
-refusalLine number n = (33 ∷ []) ++ fields (number ∷ n ∷ []) ++ newline ∷ []
+-- `!` and numbers after it
+unfoldable pub marked : List ℕ → List ℕ
+marked vs = (33 ∷ []) ++ fields vs ++ newline ∷ []
+
+-- `! R N`: the frame's number, the refusal; and where content breaks `! R N P` with the place (document 02, R-8)
+unfoldable pub refusalLine : ℕ → Refusal → List ℕ
+refusalLine number (Plain n) = marked (number ∷ n ∷ [])
+refusalLine number (Broken n place) = marked (number ∷ n ∷ place ∷ [])
 
 -- a line of numbers of 64 bits has at most so many characters
 abbrev pub room : ℕ

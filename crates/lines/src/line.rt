@@ -3,12 +3,13 @@ ghost use mathlib.Core.Path.{_≡_};
 ghost use Prim.Native.Nat.{_+_, _≤_};
 ghost use lib.ListN.{length};
 ghost use Rattle.lines.specs.Text.{Put};
-ghost use Rattle.lines.specs.Line.{header, room, letter as Line·letter, formText, line, reportLine, refusalLine};
+ghost use Rattle.lines.specs.Line.{header, room, letter as Line·letter, formText, line, reportLine, marked, refusalLine};
 use crate::text::put_byte;
 use crate::text::put_bytes;
 use crate::text::put_decimal;
 use crate::text::put_fields;
 use report::Form;
+use report::Refusal;
 use report::Report;
 
 // The room that a line takes at most.
@@ -77,14 +78,30 @@ fn letter(form: Form) -> u8
     }
 }
 
-// The line of a refusal in the frame with this number.
-pub fn put_refusal(out: &mut [u8], at: usize, number: u64, refusal: u8) -> usize
+// The line of a refusal in the frame with this number, with the place where it has one.
+pub fn put_refusal(out: &mut [u8], at: usize, frame: u64, refusal: Refusal) -> usize
     requires { ⌜ at + room ≤ length (now out) ⌝ }
-    ensures { λ r. ⌜ Put at (refusalLine number refusal) (now (out .entry)) r (now (out .exit)) ⌝ }
+    ensures { λ r. ⌜ Put at (refusalLine frame refusal) (now (out .entry)) r (now (out .exit)) ⌝ }
     ensures { λ r. ⌜ r ≤ at + room ⌝ }
 {
-    let values = [number, refusal as u64];
+    match refusal {
+        Refusal::Plain(number) => {
+            let values = [frame, number as u64];
+            put_marked(out, at, &values)
+        }
+        Refusal::Broken { number, place } => {
+            let values = [frame, number as u64, place as u64];
+            put_marked(out, at, &values)
+        }
+    }
+}
+
+// The mark of a refusal and the numbers after it.
+fn put_marked(out: &mut [u8], at: usize, values: &[u64]) -> usize
+    requires { ⌜ at + length (marked (now values)) ≤ length (now out) ⌝ }
+    ensures { λ r. ⌜ Put at (marked (now (values .entry))) (now (out .entry)) r (now (out .exit)) ⌝ }
+{
     let next = put_byte(out, at, b'!');
-    let end = put_fields(out, next, &values);
+    let end = put_fields(out, next, values);
     put_byte(out, end, b'\n')
 }

@@ -7,19 +7,19 @@ use mathlib.Core.Bool.{Bool, true, false, _&&_, cond}
 use mathlib.Core.List.{List, [], _∷_, _++_}
 use lib.Dec.{eqb}
 use borrow.Author.Tests.{eqb-true}
-use Rattle.bits.specs.Outcome.{Outcome, gives, refused}
+use Rattle.bits.specs.Outcome.{gives, refused}
 use Rattle.bits.proofs.Choice.{and-left, chosen}
 use Rattle.word.specs.declared.Word.{Word}
 use Rattle.word.specs.declared.Word.the-variants.{Single, First, Later, Tuning, Administration, Index7, Beyond}
 use Rattle.word.specs.Kind.{kindOf}
-use Rattle.report.specs.declared.Report.{Report}
-use Rattle.transmission.specs.Reading.{ReadsMulti}
+use Rattle.report.specs.Read.{Reading}
 use Rattle.transmission.specs.State.{started}
 use Rattle.transmission.specs.Step as abstract
 use Rattle.assembler.specs.declared.Partial.{Partial}
 use Rattle.assembler.specs.declared.Assembler.the-variants.{Started}
 use Rattle.assembler.specs.declared.Answer.the-variants as answer
 use Rattle.assembler.specs.declared.Step.{Step}
+use Rattle.assembler.specs.Reading.{Reads, multiReads}
 use Rattle.assembler.specs.State.{contentsOf, stateOf, partialOf, assemblerOf}
 use Rattle.assembler.specs.Fits.{fits}
 use Rattle.assembler.specs.Answers.{answerOf, given}
@@ -35,14 +35,14 @@ Continues p s = ((q : Partial) × (s .next ≡ Started q) × (q .ci ≡ p .ci) �
 never : {A : Type 0} → false ≡ true → A
 never e = let z : _≡_ {A = ℕ} 0 1 = cc in absurd (omega arith)
 
-module _ (read : ReadsMulti Report) (p : Partial) where
-  whole-read : (o : Outcome Report ℕ) → isTaken (answerOf (abstract.completed o .answer)) ≡ true → Continues p (given (abstract.completed o))
+module _ (read : Reads) (p : Partial) where
+  whole-read : (o : Reading) → isTaken (answerOf (abstract.completed (gives o) .answer)) ≡ true → Continues p (given (abstract.completed (gives o)))
   unfolding abstract.completed answerOf isTaken
   whole-read (gives r) t = inr refl
-  whole-read (refused n) t = never t
+  whole-read (refused x) t = never t
 
   one-more : (ci gsi : ℕ) (contents : List ℕ) (last : Bool) → ci ≡ p .ci
-      → let s = cond last (abstract.completed (read (p .head) contents)) (abstract.leaving (started ci (p .head) gsi contents) abstract.nothing) in
+      → let s = cond last (abstract.completed (gives (read (p .head) contents))) (abstract.leaving (started ci (p .head) gsi contents) abstract.nothing) in
       isTaken (answerOf (s .answer)) ≡ true → Continues p (given s)
   unfolding assemblerOf partialOf
   one-more ci gsi contents true e t = whole-read (read (p .head) contents) t
@@ -59,12 +59,12 @@ module _ (read : ReadsMulti Report) (p : Partial) where
   by-kind (Later ci second gsi content) b t = turn (eqb (p .ci) ci && abstract.inTurn (p .gsi) (contentsOf p) second gsi) refl t
     where
       turn : (v : Bool) → eqb (p .ci) ci && abstract.inTurn (p .gsi) (contentsOf p) second gsi ≡ v
-          → let s = cond v (abstract.taken read ci (p .head) gsi (contentsOf p ++ content ∷ [])) abstract.strayed in
+          → let s = cond v (abstract.taken (multiReads read) ci (p .head) gsi (contentsOf p ++ content ∷ [])) abstract.strayed in
           isTaken (answerOf (s .answer)) ≡ true → Continues p (given s)
       turn true e h = one-more ci gsi (contentsOf p ++ content ∷ []) (eqb gsi 0) (sym (eqb-true (p .ci) ci (and-left (eqb (p .ci) ci) _ e))) h
       turn false e h = never h
 
-pub continues : (read : ReadsMulti Report) (p : Partial) (n : ℕ) → fits (Started p) ≡ true → begins (kindOf n) ≡ false → isTaken (stepOf read (Started p) n .answer) ≡ true → Continues p (stepOf read (Started p) n)
+pub continues : (read : Reads) (p : Partial) (n : ℕ) → fits (Started p) ≡ true → begins (kindOf n) ≡ false → isTaken (stepOf read (Started p) n .answer) ≡ true → Continues p (stepOf read (Started p) n)
 unfolding stepOf abstract.step
 continues read p n f b t =
     let same : stepOf read (Started p) n ≡ taking read (Started p) (kindOf n) = chosen _ _ _ f in

@@ -10,14 +10,15 @@ use lib.Dec.{ltb, lit<}
 use borrow.Author.Tests.{ltb-true, ltb-false}
 use Rattle.bits.proofs.Choice.{and-left, and-right}
 use Rattle.word.specs.Kind.{kindOf}
-use Rattle.report.specs.declared.Report.{Report}
-use Rattle.transmission.specs.Reading.{ReadsMulti}
 use Rattle.transmission.specs.Demand3.{All}
+use Rattle.report.specs.declared.Refusal.{Refusal}
+use Rattle.report.specs.declared.Refusal.the-variants.{Plain}
 use Rattle.assembler.specs.declared.Assembler.{Assembler}
 use Rattle.assembler.specs.declared.Assembler.the-variants.{Empty, Started}
 use Rattle.assembler.specs.declared.Answer.{Answer}
 use Rattle.assembler.specs.declared.Answer.the-variants as answer
 use Rattle.assembler.specs.declared.Step.{Step}
+use Rattle.assembler.specs.Reading.{Reads}
 use Rattle.assembler.specs.Step.{stepOf}
 use Rattle.assembler.specs.Calls.{calls, after}
 use Rattle.assembler.proofs.Refusals.{no-word-refused}
@@ -27,22 +28,22 @@ use Rattle.messages.specs.Whole.{Whole}
 
 -- a call that was not refused, and a state with no open message
 abbrev Taken : Step → Type 0
-Taken s = (n : ℕ) → s .answer ≡ answer.Refused n → ⊥
+Taken s = (r : Refusal) → s .answer ≡ answer.Refused r → ⊥
 
-no-refusal : (x : Answer) → isTaken x ≡ true → (n : ℕ) → x ≡ answer.Refused n → ⊥
+no-refusal : (x : Answer) → isTaken x ≡ true → (r : Refusal) → x ≡ answer.Refused r → ⊥
 unfolding isTaken
 no-refusal x t n e =
     let k : true ≡ false = sym t ∙ ap isTaken e in
     let z : _≡_ {A = ℕ} 0 1 = cc in
     omega arith
 
-taken-true : (x : Answer) → ((n : ℕ) → x ≡ answer.Refused n → ⊥) → isTaken x ≡ true
+taken-true : (x : Answer) → ((r : Refusal) → x ≡ answer.Refused r → ⊥) → isTaken x ≡ true
 unfolding isTaken
 taken-true answer.Nothing h = refl
 taken-true answer.Report h = refl
 taken-true (answer.Tuning n) h = refl
 taken-true (answer.Administration n) h = refl
-taken-true (answer.Refused n) h = absurd (h n refl)
+taken-true (answer.Refused r) h = absurd (h r refl)
 
 empty-state : (a : Assembler) → isEmpty a ≡ true → a ≡ Empty
 unfolding isEmpty
@@ -51,7 +52,7 @@ empty-state (Started p) e =
     let z : _≡_ {A = ℕ} 0 1 = cc in
     absurd (omega arith)
 
-module _ (read : ReadsMulti Report) where
+module _ (read : Reads) where
   -- the parts of the test of one word
   module _ (a : Assembler) (n : ℕ) (ns : List ℕ) (w : wholeFrom read a (n ∷ ns) ≡ true) where
     here : passes read a n ≡ true
@@ -81,7 +82,7 @@ module _ (read : ReadsMulti Report) where
     where
       below : (t : Bool) → ltb n (2 ^ 37) ≡ t → n < 2 ^ 37
       below true e = ltb-true n (2 ^ 37) e
-      below false e = absurd (not-refused a n ns w 9 (ap (λ (s : Step). s .answer) (no-word-refused read a n (ltb-false n (2 ^ 37) e))))
+      below false e = absurd (not-refused a n ns w (Plain 9) (ap (λ (s : Step). s .answer) (no-word-refused read a n (ltb-false n (2 ^ 37) e))))
 
   -- calls from a state on
   all-taken : (ws : List ℕ) (a : Assembler) → wholeFrom read a ws ≡ true → All Taken (calls read a ws)

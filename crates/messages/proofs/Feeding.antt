@@ -11,10 +11,9 @@ use Rattle.word.specs.declared.Word.{Word}
 use Rattle.word.specs.declared.Word.the-variants.{Single, First, Later, Tuning, Administration, Index7, Beyond}
 use Rattle.word.specs.Kind.{kindOf}
 use Rattle.word.proofs.Word as word
-use Rattle.report.specs.declared.Report.{Report}
-use Rattle.transmission.specs.Reading.{ReadsMulti}
 use Rattle.assembler.specs.declared.Assembler.{Assembler}
 use Rattle.assembler.specs.declared.Advance.{Advance}
+use Rattle.assembler.specs.Reading.{Reads}
 use Rattle.assembler.specs.Step.{stepOf}
 use Rattle.assembler.specs.Advance.{advanceOf}
 use Rattle.messages.specs.Messages.{isEmpty, begins, passes, wholeFrom}
@@ -31,7 +30,7 @@ no-beginning (Index7 n) k = refl
 no-beginning (Beyond n) k = refl
 
 -- the first word decides, by what was found of the state, of the word's kind k and of what it does, and then the rest
-pub whole-next : (read : ReadsMulti Report) (a : Assembler) (ws : List ℕ) (i : ℕ) (e b v : Bool) (k : Word) (s : Advance) → i < length ws
+pub whole-next : (read : Reads) (a : Assembler) (ws : List ℕ) (i : ℕ) (e b v : Bool) (k : Word) (s : Advance) → i < length ws
     → e ≡ isEmpty a → k ≡ kindOf (getD ws i 0) → b ≡ begins k → s ≡ advanceOf (stepOf read a (getD ws i 0)) → (e || not b) && s .taken ≡ v
     → wholeFrom read a (drop i ws) ≡ v && wholeFrom read (s .next) (drop (suc i) ws)
 unfolding wholeFrom passes

@@ -8,14 +8,15 @@ use lib.ListN.{length, drop, replicate}
 use Rattle.word.specs.Kind.{kindOf}
 use Rattle.report.specs.declared.Report.{Report}
 use Rattle.report.specs.Report.{singleReport}
-use Rattle.transmission.specs.Reading.{ReadsMulti}
 use Rattle.transmission.specs.Message.{Group, Falling, end, next, WellFormed, alone, joined}
 use Rattle.transmission.specs.Demand3.{All}
 use Rattle.transmission.proofs.WholeMessage.{wordsIn}
+use Rattle.report.specs.declared.Refusal.{Refusal}
 use Rattle.assembler.specs.declared.Assembler.the-variants.{Empty}
 use Rattle.assembler.specs.declared.Answer.{Answer}
 use Rattle.assembler.specs.declared.Answer.the-variants as answer
 use Rattle.assembler.specs.declared.Step.{Step}
+use Rattle.assembler.specs.Reading.{Reads, numbered}
 use Rattle.assembler.specs.Calls.{calls, after}
 use Rattle.assembler.proofs.OneMessage.{one-message}
 use Rattle.messages.specs.Messages.{begins}
@@ -23,7 +24,7 @@ use Rattle.messages.specs.Whole.{Whole}
 
 -- an answer that is no refusal
 abbrev Taken : Answer → Type 0
-Taken x = (n : ℕ) → x ≡ answer.Refused n → ⊥
+Taken x = (r : Refusal) → x ≡ answer.Refused r → ⊥
 
 -- nothing yet, and at last a report
 taken-at-last : (k : ℕ) → All Taken (replicate k answer.Nothing ++ (answer.Report ∷ []))
@@ -47,20 +48,20 @@ unfolding begins
 falling-goes end = tt
 falling-goes (next k f) = (ap begins k, falling-goes f)
 
-module _ (read : ReadsMulti Report) where
+module _ (read : Reads) where
   -- only the first word may begin a message
   first-begins : (w : ℕ) (ws : List ℕ) → Goes ws → (before : List ℕ) (n : ℕ) (rest : List ℕ) → w ∷ ws ≡ before ++ n ∷ rest → begins (kindOf n) ≡ true → after read Empty before ≡ Empty
   unfolding after
   first-begins w ws g [] n rest e b = refl
   first-begins w ws g (m ∷ before) n rest e b = absurd (false≢true (sym (goes-at before n rest (subst Goes (ap (drop 1) e) g)) ∙ b))
 
-  none-dropped : {gs : List Group} {r : Report} → WellFormed singleReport read gs r
+  none-dropped : {gs : List Group} {r : Report} → WellFormed singleReport (numbered read) gs r
       → (before : List ℕ) (n : ℕ) (rest : List ℕ) → wordsIn gs ≡ before ++ n ∷ rest → begins (kindOf n) ≡ true → after read Empty before ≡ Empty
   unfolding begins
   none-dropped (alone {g = g} k) = first-begins (g .word) [] tt
   none-dropped (joined {f = f} {g = g} {gs = gs} k k2 falling reads) = first-begins (f .word) (wordsIn (g ∷ gs)) (ap begins k2, falling-goes falling)
 
-  pub formed-whole : {gs : List Group} {r : Report} → WellFormed singleReport read gs r → Whole read (wordsIn gs)
+  pub formed-whole : {gs : List Group} {r : Report} → WellFormed singleReport (numbered read) gs r → Whole read (wordsIn gs)
   formed-whole {gs} formed =
       let back = one-message read formed in
       record {

@@ -6,10 +6,9 @@ use mathlib.Core.List.{List, [], _∷_}
 use Rattle.word.specs.declared.Word.{Word}
 use Rattle.word.specs.declared.Word.the-variants.{Single, First, Later, Tuning, Administration, Index7, Beyond}
 use Rattle.word.specs.Kind.{kindOf}
-use Rattle.report.specs.declared.Report.{Report}
-use Rattle.transmission.specs.Reading.{ReadsMulti}
 use Rattle.assembler.specs.declared.Assembler.{Assembler}
 use Rattle.assembler.specs.declared.Assembler.the-variants.{Empty, Started}
+use Rattle.assembler.specs.Reading.{Reads}
 use Rattle.assembler.specs.Step.{stepOf}
 use Rattle.assembler.specs.Advance.{isTaken}
 
@@ -29,7 +28,7 @@ begins (Administration n) = false
 begins (Index7 n) = false
 begins (Beyond n) = false
 
-module _ (read : ReadsMulti Report) where
+module _ (read : Reads) where
   -- a word that drops no open message and is not refused
   unfoldable pub passes : Assembler → ℕ → Bool
   passes a n = (isEmpty a || not (begins (kindOf n))) && isTaken (stepOf read a n .answer)

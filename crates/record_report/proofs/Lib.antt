@@ -7,5 +7,6 @@ pub mod MadeFields
 pub mod Reports
 pub mod Normal
 pub mod WayBack
+pub mod Broken
 pub mod MadeFits
 pub mod Examples

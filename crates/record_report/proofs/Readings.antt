@@ -9,16 +9,17 @@ use lib.Seq.{take-take}
 use lib.Dec.{leb}
 use borrow.Author.Tests.{eqb-true, leb-true, eq-eqb, ne-eqb}
 use Rattle.bits.specs.Fields.{flat}
-use Rattle.bits.specs.Outcome.{Outcome, gives, refused}
+use Rattle.bits.specs.Outcome.{gives, refused}
 use Rattle.bits.proofs.Choice.{and-left, and-right, chosen, passed-over}
 use Rattle.content.specs.declared.content.Content.{Content}
 use Rattle.content.specs.Halves.{bitsOf}
 use Rattle.content.specs.Packing.{longest}
-use Rattle.report.specs.declared.Report.{Report}
+use Rattle.report.specs.declared.Refusal.{Refusal}
+use Rattle.report.specs.declared.Refusal.the-variants.{Plain}
 use Rattle.report.specs.declared.MessageReading as answer
 use Rattle.report.specs.declared.Answer.the-variants as message
 use Rattle.report.specs.Report.{singleReport}
-use Rattle.report.specs.Read.{readItems, outcomeOf}
+use Rattle.report.specs.Read.{Reading, readItems, outcomeOf}
 use Rattle.report.proofs.Outcomes.{was-read, was-refused}
 use Rattle.record.specs.declared.Service.{Service}
 use Rattle.record.specs.Layout.{recordSize, isRecord, byteAt, groupsIn, headIn, realIn, durationIn, diversionIn, contentIn, serviceIn, expiryIn}
@@ -33,7 +34,7 @@ module _ (r : List ℕ) where
   unfolding messageIn
   single-message e = chosen _ _ _ (eq-eqb (groupsIn r) 1 e)
 
-  pub multi-message : (groupsIn r ≡ 1 → ⊥) → messageIn r ≡ readItems (headIn r) (realIn r) (take (contentBits r) (flat 8 (contentIn r)))
+  pub multi-message : (groupsIn r ≡ 1 → ⊥) → messageIn r ≡ readItems (headIn r) (realIn r) (contentBits r) (take (contentBits r) (flat 8 (contentIn r)))
   unfolding messageIn
   multi-message e = passed-over _ _ _ (ne-eqb (groupsIn r) 1 e)
 
@@ -47,9 +48,9 @@ module _ (r : List ℕ) where
         leb-true (groupsIn r) 5 (and-right (leb 1 (groupsIn r)) (leb (groupsIn r) 5) few),
       )
 
-  pub message-by : (b : Bool) → oneRecord groupsFit r ≡ b → messageOf r ≡ cond b (messageIn r) (refused 10)
+  pub message-by : (b : Bool) → oneRecord groupsFit r ≡ b → messageOf r ≡ cond b (messageIn r) (refused (Plain 10))
   unfolding messageOf
-  message-by b e = ap (λ (x : Bool). cond x (messageIn r) (refused 10)) e
+  message-by b e = ap (λ (x : Bool). cond x (messageIn r) (refused (Plain 10))) e
 
   -- the first bits of the content as it is held
   pub held-bits : (x : Content) → groupsIn r ≤ 5 → take longest (bitsOf x) ≡ flat 8 (contentIn r) → take (contentBits r) (bitsOf x) ≡ take (contentBits r) (flat 8 (contentIn r))
@@ -72,11 +73,11 @@ module _ (r : List ℕ) where
   fit-reading e h = chosen _ _ _ (ap₂ (λ (a b : Bool). a && b) (eq-eqb (length r) recordSize e) h)
 
 -- the answer to a message by its outcome
-module _ (x : answer.MessageReading) (m : Outcome Report ℕ) (s : Service) (expiry : ℕ) (e : x ≡ outcomeOf m) where
+module _ (x : answer.MessageReading) (m : Reading) (s : Service) (expiry : ℕ) (e : x ≡ outcomeOf m) where
   pub answered-read : x .answer ≡ message.Read → record { answer = Read; report = x .report; service = s; expiry = record { 0 = expiry } } ≡ answered m s expiry
   unfolding answered
-  answered-read a = sym (ap (λ (y : Outcome Report ℕ). answered y s expiry) (was-read m x e a))
+  answered-read a = sym (ap (λ (y : Reading). answered y s expiry) (was-read m x e a))
 
-  pub answered-refused : (n : ℕ) → x .answer ≡ message.Refused n → nothing (Refused n) ≡ answered m s expiry
+  pub answered-refused : (u : Refusal) → x .answer ≡ message.Refused u → nothing (Refused u) ≡ answered m s expiry
   unfolding answered
-  answered-refused n a = sym (ap (λ (y : Outcome Report ℕ). answered y s expiry) (was-refused m x n e a))
+  answered-refused u a = sym (ap (λ (y : Reading). answered y s expiry) (was-refused m x u e a))

@@ -7,7 +7,7 @@ use native.Mathlib.Omega.{arith}
 use lib.ListN.{length, take, length-append, length-replicate}
 use lib.Seq.{take-append-add}
 use Rattle.bits.specs.Fields.{flat}
-use Rattle.bits.specs.Outcome.{Outcome, gives, mapped}
+use Rattle.bits.specs.Outcome.{gives}
 use Rattle.bits.proofs.Choice.{and-left, and-right}
 use Rattle.bits.proofs.Fields.{flat-words}
 use Rattle.word.specs.declared.Head.{Head}
@@ -20,14 +20,16 @@ use Rattle.report.specs.declared.Report.{Report}
 use Rattle.report.specs.declared.Form.{Form}
 use Rattle.report.specs.declared.Form.the-variants.{Single, Multi}
 use Rattle.report.specs.Report.{singleReport, multiReport}
-use Rattle.report.specs.Read.{readItems}
+use Rattle.report.specs.Read.{Reading, readItems}
 use Rattle.report.specs.Fits.{fitsBy, realFits, reportFits}
 use Rattle.report.specs.Record.{bytesOf, groupsFor, groupsOf}
+use Rattle.report.proofs.Wholes.{items-read}
 use Rattle.report.proofs.Multi.{fit-writable}
 use Rattle.report.proofs.Kept.{report-items}
 use Rattle.report.proofs.OwnParts.{multi-is-report, single-is-report}
 use Rattle.record.specs.declared.Service.{Service}
 use Rattle.record.specs.Layout.{byteAt, groupsIn, serviceIn, headIn, realIn, expiryIn}
+use Rattle.record.specs.WellFormed.{contentBits}
 use Rattle.record_report.specs.declared.Answer.the-variants.{Read}
 use Rattle.record_report.specs.Made.{recordOf}
 use Rattle.record_report.specs.Normal.{ownTable, broughtHome, normal}
@@ -115,8 +117,8 @@ module _ (r : Report) (s : Service) (set expiry : ℕ) (sized : length (r .items
           let many : groupsIn made ≡ 1 → ⊥ = λ z. let g = multi-groups r e in let one : groups n ≡ 1 = sym g ∙ z in omega arith in
           let bits-are = ap₂ (λ (m : ℕ) (l : List ℕ). take (groupBits * (m - 1)) (flat 8 l)) (multi-groups r e) (content-back r s set expiry) ∙ padded-back its short in
           multi-message made many
-          ∙ (λ i. readItems (normal-head i) (normal-real i) (bits-are i))
-          ∙ unfold readItems in ap (mapped (multiReport (normal s r .head) (normal s r .real))) (written-is-read [] its can short)
+          ∙ (λ i. readItems (normal-head i) (normal-real i) (contentBits made) (bits-are i))
+          ∙ items-read (normal s r .head) (normal s r .real) (contentBits made) _ its (written-is-read [] its can short)
           ∙ ap gives (multi-normal (multi-is-report r sized (unfold fitsBy in h) e))
 
   -- the whole reading: the report with its service and its expiry
@@ -125,5 +127,5 @@ module _ (r : Report) (s : Service) (set expiry : ℕ) (sized : length (r .items
   reading-back =
       let used : byteAt made 0 ≡ 0 → ⊥ = λ z. omega (arith, used-back r s set expiry) in
       used-reading made used
-      ∙ ap (λ (m : Outcome Report ℕ). answered m (serviceIn made) (expiryIn made)) reads-back
+      ∙ ap (λ (m : Reading). answered m (serviceIn made) (expiryIn made)) reads-back
       ∙ ap₂ (λ (x : Service) (n : ℕ). answered (gives (normal s r)) x n) (service-back r s set expiry) (expiry-back r s set expiry)

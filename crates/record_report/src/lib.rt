@@ -4,6 +4,7 @@ pub mod read;
 
 use clock::Utc;
 use record::Service;
+use report::Refusal;
 use report::Report;
 
 // What came of making a record.
@@ -16,7 +17,7 @@ pub enum Making {
 pub enum Answer {
     Free,
     Read,
-    Refused(u8),
+    Refused(Refusal),
 }
 
 // The answer, and beside it the report, its service and when it ends: blank where there is none.

@@ -16,6 +16,7 @@ use crate::Reading;
 use bits::bytes::load;
 use clock::Utc;
 use content::content::Content;
+use content::rest::Rest;
 use record::Record;
 use record::Service;
 use record::fields::expiry;
@@ -24,6 +25,7 @@ use record::fields::real_location;
 use record::fields::service;
 use record::test::fits;
 use report::MessageReading;
+use report::Refusal;
 use report::Report;
 
 // Where the bytes of the content's low half begin, and what brings them to its top: it has room for two bytes more.
@@ -32,12 +34,12 @@ const LOW: usize = Record::CONTENT + 8;
 const TO_THE_TOP: u64 = 0x1_0000;
 
 // The report of a record with its service and expiry, or that it is free. Bytes that are not one well-formed record are refused (10), then
-// content that does not read as items (7 or 8).
+// content that does not read as items (7 or 8), with the place in the record's own content.
 pub fn read(r: &[u8]) -> Reading
     ensures { λ x. ⌜ x ≡ readingOf (now (r .entry)) ⌝ }
 {
     if !fits(r) {
-        return nothing(Answer::Refused(10));
+        return nothing(Answer::Refused(Refusal::Plain(10)));
     }
     if r[Record::MARK] == 0 {
         return nothing(Answer::Free);
@@ -53,7 +55,7 @@ pub fn read(r: &[u8]) -> Reading
             service: service(r),
             expiry: end,
         },
-        report::Answer::Refused(n) => nothing(Answer::Refused(n)),
+        report::Answer::Refused(refusal) => nothing(Answer::Refused(refusal)),
     }
 }
 
@@ -80,7 +82,7 @@ pub fn message_of(r: &[u8]) -> MessageReading
 {
     if !has_groups(r) {
         return MessageReading {
-            answer: report::Answer::Refused(10),
+            answer: report::Answer::Refused(Refusal::Plain(10)),
             report: Report::new(),
         };
     }
@@ -126,7 +128,12 @@ fn message(r: &[u8]) -> MessageReading
             report: with_real(single, real),
         }
     } else {
-        Report::with_items(head, real, content(r), Content::GROUP * (groups - 1))
+        let size = Content::GROUP * (groups - 1);
+        let rest = Rest {
+            bits: content(r),
+            left: size,
+        };
+        Report::with_items(head, real, size, rest)
     }
 }
 

@@ -7,6 +7,7 @@ use mathlib.Core.Bool.{Bool, true, false, cond}
 use mathlib.Core.List.{List, [], _++_, append-assoc}
 use lib.ListN.{length, take, drop, length-append, length-drop}
 use lib.Seq.{take-at, drop-at, drop-drop, length-take-le}
+use Rattle.report.specs.declared.Refusal.the-variants.{Plain}
 use Rattle.lines.specs.Text.{put, Put}
 use Rattle.lines.specs.Line.{refusalLine}
 use Rattle.session.specs.declared.Session.{Session}
@@ -85,7 +86,7 @@ module _ (s : Session) (input : List ℕ) (last : Bool) (out₀ : List ℕ) (now
       }
 
   -- no whole frame is left
-  pub going-end : (frame : Frame) (ended : Bool) → frameOf (drop from input) ≡ frame → whole frame ≡ false → t ≡ cond (refusedAt frame last) (refusalLine (next (now .frames)) 1) [] → ended ≡ endedAt frame last → e ≤ length out′ → Listed s input last out₀ (record { session = now; taken = from; written = e; ended = ended }) out′
+  pub going-end : (frame : Frame) (ended : Bool) → frameOf (drop from input) ≡ frame → whole frame ≡ false → t ≡ cond (refusedAt frame last) (refusalLine (next (now .frames)) (Plain 1)) [] → ended ≡ endedAt frame last → e ≤ length out′ → Listed s input last out₀ (record { session = now; taken = from; written = e; ended = ended }) out′
   going-end frame ended f w text is inside =
       record {
         within = (g .taken, inside);

@@ -9,6 +9,7 @@ use lib.Seq.{take-append-le, drop-append-le}
 use lib.Dec.{leb}
 use borrow.Author.Tests.{leb-true, le-leb}
 use Rattle.bits.proofs.Choice.{and-left}
+use Rattle.report.specs.declared.Refusal.the-variants.{Plain}
 use Rattle.lines.specs.Line.{refusalLine}
 use Rattle.session.specs.declared.Session.{Session}
 use Rattle.framing.specs.declared.Frame.{Frame}
@@ -108,7 +109,7 @@ whole-lines s l rest n e =
     ∙ ap₂ (λ (r t : List ℕ). frameText s r ++ linesFrom (afterFrame s r) t) same (drop-append-le (2 + n) l rest (there .1))
 
 -- bytes that begin with no whole frame
-pub end-lines : (s : Session) (l rest : List ℕ) (last : Bool) (frame : Frame) → frameOf l ≡ frame → whole frame ≡ false → (last ≡ true → rest ≡ []) → linesFrom s (l ++ rest) ≡ cond (refusedAt frame last) (refusalLine (next (s .frames)) 1) [] ++ linesLeft (endedAt frame last) s (l ++ rest)
+pub end-lines : (s : Session) (l rest : List ℕ) (last : Bool) (frame : Frame) → frameOf l ≡ frame → whole frame ≡ false → (last ≡ true → rest ≡ []) → linesFrom s (l ++ rest) ≡ cond (refusedAt frame last) (refusalLine (next (s .frames)) (Plain 1)) [] ++ linesLeft (endedAt frame last) s (l ++ rest)
 unfolding fromFrame frameOf whole endedAt refusedAt
 end-lines s l rest true End e w h = ap₂ (λ (x y : List ℕ). linesFrom s (x ++ y)) (none-left l e) (h refl) ∙ lines-law s []
 end-lines s l rest false End e w h = refl
@@ -117,8 +118,8 @@ end-lines s l rest true Part e w h =
     ∙ ap (linesFrom s) (append-nil l)
     ∙ lines-law s l
     ∙ ap (fromFrame linesFrom s l) e
-    ∙ sym (append-nil (refusalLine (next (s .frames)) 1))
+    ∙ sym (append-nil (refusalLine (next (s .frames)) (Plain 1)))
 end-lines s l rest false Part e w h = refl
 end-lines s l rest last Bad e w h =
-    lines-law s (l ++ rest) ∙ ap (fromFrame linesFrom s (l ++ rest)) (bad-more l rest e) ∙ sym (append-nil (refusalLine (next (s .frames)) 1))
+    lines-law s (l ++ rest) ∙ ap (fromFrame linesFrom s (l ++ rest)) (bad-more l rest e) ∙ sym (append-nil (refusalLine (next (s .frames)) (Plain 1)))
 end-lines s l rest last (Whole n) e w h = let z : _≡_ {A = ℕ} 0 1 = cc in absurd (omega arith)

@@ -5,6 +5,7 @@ use mathlib.Core.Logic.{_⊎_}
 use mathlib.Core.Bool.{Bool, true, false, cond}
 use mathlib.Core.List.{List, [], _++_}
 use lib.ListN.{length, take, drop}
+use Rattle.report.specs.declared.Refusal.the-variants.{Plain}
 use Rattle.lines.specs.Line.{header, refusalLine}
 use Rattle.framing.specs.Frame.{frameOf}
 use Rattle.session.specs.Session.{start, next, afterFrame, frameText, frameRoom}
@@ -23,8 +24,8 @@ frameIn n input = take n (drop 2 input)
 -- print refusal 1 and end
 unfoldable pub fromFrame : (Session → List ℕ → List ℕ) → Session → List ℕ → Frame → List ℕ
 fromFrame rest s input End = []
-fromFrame rest s input Part = refusalLine (next (s .frames)) 1
-fromFrame rest s input Bad = refusalLine (next (s .frames)) 1
+fromFrame rest s input Part = refusalLine (next (s .frames)) (Plain 1)
+fromFrame rest s input Bad = refusalLine (next (s .frames)) (Plain 1)
 fromFrame rest s input (Whole n) = frameText s (frameIn n input) ++ rest (afterFrame s (frameIn n input)) (drop (2 + n) input)
 
 -- the lines of an input, by a bound on its frames that no input meets

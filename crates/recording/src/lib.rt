@@ -5,11 +5,13 @@ ghost use mathlib.Core.List.{[]};
 ghost use Prim.Native.Nat.{_+_, _≤_};
 ghost use lib.ListN.{length};
 ghost use Rattle.lines.specs.Text.{Put};
+ghost use Rattle.report.specs.declared.Refusal.the-variants.{Plain};
 ghost use Rattle.lines.specs.Line.{refusalLine, room};
 ghost use Rattle.session.specs.Session.{next as Session·next};
 ghost use Rattle.recording.specs.Listing.{Listed, Answered, endedAt, refusedAt};
 use framing::Frame;
 use lines::line::put_refusal;
+use report::Refusal;
 use session::Session;
 use session::next;
 
@@ -102,11 +104,11 @@ fn is_refused(f: Frame, last: bool) -> bool
 // Puts refusal 1 of the next frame, if there is one.
 fn put_end(out: &mut [u8], at: usize, refused: bool, frames: u64) -> usize
     requires { ⌜ at + room ≤ length (now out) ⌝ }
-    ensures { λ r. ⌜ Put at (cond refused (refusalLine (Session·next frames) 1) []) (now (out .entry)) r (now (out .exit)) ⌝ }
+    ensures { λ r. ⌜ Put at (cond refused (refusalLine (Session·next frames) (Plain 1)) []) (now (out .entry)) r (now (out .exit)) ⌝ }
     ensures { λ r. ⌜ r ≤ at + room ⌝ }
 {
     if refused {
-        put_refusal(out, at, next(frames), 1)
+        put_refusal(out, at, next(frames), Refusal::Plain(1))
     } else {
         at
     }

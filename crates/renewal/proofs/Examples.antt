@@ -12,7 +12,8 @@ use Rattle.content.specs.Content.{content}
 use Rattle.content.specs.Packing.{itemFits}
 use Rattle.report.specs.declared.Report.{Report}
 use Rattle.report.specs.Report.{singleReport, multiReport}
-use Rattle.report.specs.Read.{readItems}
+use Rattle.report.specs.declared.Refusal.the-variants.{Broken}
+use Rattle.report.specs.Read.{placed, readItems}
 use Rattle.record.specs.declared.Service.{Service}
 use Rattle.record.specs.Locations.{headLocation, realLocation}
 use Rattle.record.specs.Layout.{freeRecord, fourBytes, eightBytes, withSet}
@@ -35,7 +36,7 @@ use Rattle.renewal.specs.Renewal.{renewed, renewFits, renewAnswer, renew
 
 -- names what the cases compute with
 unfoldable renewing : Unit {0}
-unfolding computing widths width valued labelled first andThen readBy itemsWithin items content itemFits readItems headLocation realLocation withSet oneRecord messageIn messageOf nothing answered readingIn recordAt classesIn classed renewed renewFits renewAnswer renewTable
+unfolding computing widths width valued labelled first andThen readBy itemsWithin items content itemFits placed readItems headLocation realLocation withSet oneRecord messageIn messageOf nothing answered readingIn recordAt classesIn classed renewed renewFits renewAnswer renewTable
 renewing = tt
 
 abbrev catalogue : List ℕ
@@ -88,7 +89,7 @@ pub additional-events :
     -- a renewal refuses both
     × (renewAnswer (unreadable 160) catalogue ≡ renewal.Refused 10)
     × (renewAnswer (kept (single 300) 0x20 160) catalogue ≡ renewal.Refused 10)
-    × (recordAt (unreadable 160) 0 ≡ nothing (reading.Refused 7))
+    × (recordAt (unreadable 160) 0 ≡ nothing (reading.Refused (Broken 7 24)))
 unfolding renewing
 additional-events = (refl, refl, refl, refl, refl, refl, refl, refl, refl, refl)
 

@@ -11,6 +11,7 @@ use Rattle.bits.specs.Fields.{flat}
 use Rattle.bits.specs.Outcome.{gives, refused}
 use Rattle.content.specs.Packing.{groupBits}
 use Rattle.report.specs.Report.{singleReport}
+use Rattle.report.specs.declared.Refusal.the-variants.{Plain}
 use Rattle.report.specs.Read.{readItems}
 use Rattle.record.specs.Locations.{headLocation, realLocation}
 use Rattle.record.specs.Layout.{recordSize, byteAt, twoAt, serviceIn, locationIn, headIn, expiryIn, eventIn, contentIn, setAt}
@@ -78,7 +79,7 @@ module _ (f a b : List ℕ) (long : length f ≡ setAt) where
       let real = ap₂ realLocation same-service same-location in
       λ i.
       cond (eqb (groups i) 1) (gives (withReal (real i) (singleReport (duration i) (diversion i) (same-head i))))
-      (readItems (same-head i) (real i) (take (groupBits * (groups i - 1)) (flat 8 (same-content i))))
+      (readItems (same-head i) (real i) (groupBits * (groups i - 1)) (take (groupBits * (groups i - 1)) (flat 8 (same-content i))))
 
   -- and the same message
   pub same-message : length a ≡ length b → messageOf (f ++ a) ≡ messageOf (f ++ b)
@@ -86,4 +87,4 @@ module _ (f a b : List ℕ) (long : length f ≡ setAt) where
   same-message e =
       let size : length (f ++ a) ≡ length (f ++ b) = length-append f a ∙ ap (λ (n : ℕ). length f + n) e ∙ sym (length-append f b) in
       let groups = same-byte 1 (omega arith) in
-      λ i. cond (eqb (size i) recordSize && (leb 1 (groups i) && leb (groups i) 5)) (same-message-in i) (refused 10)
+      λ i. cond (eqb (size i) recordSize && (leb 1 (groups i) && leb (groups i) 5)) (same-message-in i) (refused (Plain 10))

@@ -3,15 +3,15 @@ use Prim.Native.Nat.{ℕ}
 use mathlib.Core.Path.{_≡_, sym, ap, ap₂, _∙_}
 use mathlib.Core.Bool.{Bool, _&&_, _||_, and-comm}
 use mathlib.Core.List.{List}
-use Rattle.bits.specs.Outcome.{Outcome, given}
-use Rattle.report.specs.declared.Report.{Report}
+use Rattle.bits.specs.Outcome.{given}
+use Rattle.report.specs.Read.{Reading}
 use Rattle.record.specs.Layout.{isFree, eventIn}
 use Rattle.record_report.specs.Reads.{messageOf}
 use Rattle.lent.specs.Catalogue.{entryAt, hasClass}
 use Rattle.renewal.specs.Classes.{messageClasses, classesIn, classed}
 
 module _ (c r : List ℕ) where
-  pub classes-by : (m : Outcome Report ℕ) → messageOf r ≡ m → messageClasses c m ≡ classesIn c r
+  pub classes-by : (m : Reading) → messageOf r ≡ m → messageClasses c m ≡ classesIn c r
   unfolding classesIn
   classes-by m e = ap (messageClasses c) (sym e)
 

@@ -10,14 +10,14 @@ use lib.Dec.{eqb, leb, ltb}
 use borrow.Author.Tests.{eqb-true, eq-eqb, ltb-true}
 use Rattle.bits.specs.Bits.{allZero}
 use Rattle.bits.specs.Fields.{flat}
-use Rattle.bits.specs.Outcome.{Outcome, gives, refused, mapped, given}
+use Rattle.bits.specs.Outcome.{gives, refused, mapped, refusedAs, given}
 use Rattle.bits.proofs.Choice.{and-left, and-right}
-use Rattle.content.specs.declared.item.Item.{Item}
+use Rattle.content.specs.Items as content
 use Rattle.content.specs.Content.{content}
 use Rattle.content.specs.Packing.{groupBits}
-use Rattle.report.specs.declared.Report.{Report}
 use Rattle.report.specs.Report.{singleReport, multiReport}
-use Rattle.report.specs.Read.{readItems}
+use Rattle.report.specs.declared.Refusal.the-variants.{Plain}
+use Rattle.report.specs.Read.{Reading, placed, readItems}
 use Rattle.record.specs.Layout.{recordSize, byteAt, isFree, groupsIn, headIn, realIn, durationIn, diversionIn, eventIn, expiryIn, contentIn, fourAt, fourBytes, eightAt, eightBytes, setAt, setIn, withSet}
 use Rattle.record.specs.Classes.{setOf, setFits}
 use Rattle.record.specs.WellFormed.{widths, within, rangesFit, marked, groupsFit, complete, contentBits, spareIn, restFits, wellFormed}
@@ -183,23 +183,23 @@ module _ (r : List ℕ) (long : length r ≡ recordSize) where
           ap₂ (λ (a b : Bool). a && b) put-ranges (ap (λ (b : Bool). b || complete (withSet n r) && allZero (spareIn (withSet n r))) (free-put n ∙ used) ∙ ap₂ (λ (a b : Bool). a && b) put-complete spare)
 
 -- the first event of a record's message is the record's
-told : ℕ → Outcome Report ℕ → ℕ
+told : ℕ → Reading → ℕ
 told event (gives x) = x .head .event
-told event (refused n) = event
+told event (refused u) = event
 
 event-told : (r : List ℕ) → told (eventIn r) (messageOf r) ≡ eventIn r
 unfolding told messageOf messageIn readItems
 event-told r = by-groups (oneRecord groupsFit r)
   where
-    by-outcome : (o : Outcome (List Item) ℕ) → told (eventIn r) (mapped (multiReport (headIn r) (realIn r)) o) ≡ eventIn r
+    by-outcome : (o : content.Reading) → told (eventIn r) (refusedAs (placed (contentBits r)) (mapped (multiReport (headIn r) (realIn r)) o)) ≡ eventIn r
     by-outcome (gives its) = refl
-    by-outcome (refused n) = refl
+    by-outcome (refused u) = refl
 
-    by-single : (b : Bool) → told (eventIn r) (cond b (gives (withReal (realIn r) (singleReport (durationIn r) (diversionIn r) (headIn r)))) (readItems (headIn r) (realIn r) (take (contentBits r) (flat 8 (contentIn r))))) ≡ eventIn r
+    by-single : (b : Bool) → told (eventIn r) (cond b (gives (withReal (realIn r) (singleReport (durationIn r) (diversionIn r) (headIn r)))) (readItems (headIn r) (realIn r) (contentBits r) (take (contentBits r) (flat 8 (contentIn r))))) ≡ eventIn r
     by-single true = refl
     by-single false = by-outcome (content (take (contentBits r) (flat 8 (contentIn r))))
 
-    by-groups : (b : Bool) → told (eventIn r) (cond b (messageIn r) (refused 10)) ≡ eventIn r
+    by-groups : (b : Bool) → told (eventIn r) (cond b (messageIn r) (refused (Plain 10))) ≡ eventIn r
     by-groups true = by-single (eqb (groupsIn r) 1)
     by-groups false = refl
 
@@ -209,9 +209,9 @@ module _ (c r : List ℕ) where
   unfolding classesIn setOf
   classes-small = by-message (messageOf r)
     where
-      by-message : (m : Outcome Report ℕ) → setOf (messageClasses c m) < 2 ^ 64
+      by-message : (m : Reading) → setOf (messageClasses c m) < 2 ^ 64
       by-message (gives x) = set-small c x
-      by-message (refused n) = omega arith
+      by-message (refused u) = omega arith
 
   classes-fit : catalogueFits c ≡ true → isFree r ≡ false → classed c r ≡ true → setFits (setOf (classesIn c r)) ≡ true
   unfolding classesIn classed told
@@ -219,9 +219,9 @@ module _ (c r : List ℕ) where
       let both = sym (ap (λ (b : Bool). b || given (messageOf r) && hasClass (entryAt c (eventIn r))) used) ∙ h in
       by-message (messageOf r) (event-told r) (and-left (given (messageOf r)) (hasClass (entryAt c (eventIn r))) both) (and-right (given (messageOf r)) (hasClass (entryAt c (eventIn r))) both)
     where
-      by-message : (m : Outcome Report ℕ) → told (eventIn r) m ≡ eventIn r → given m ≡ true → hasClass (entryAt c (eventIn r)) ≡ true → setFits (setOf (messageClasses c m)) ≡ true
+      by-message : (m : Reading) → told (eventIn r) m ≡ eventIn r → given m ≡ true → hasClass (entryAt c (eventIn r)) ≡ true → setFits (setOf (messageClasses c m)) ≡ true
       by-message (gives x) e g has = set-fits c x fits (ap (λ (n : ℕ). hasClass (entryAt c n)) e ∙ has)
-      by-message (refused n) e g has = clash refl (sym g)
+      by-message (refused u) e g has = clash refl (sym g)
 
   module _ (long : length r ≡ recordSize) where
     abbrev set : ℕ

@@ -2,8 +2,8 @@
 use Prim.Native.Nat.{ℕ}
 use mathlib.Core.Bool.{Bool, _&&_, _||_}
 use mathlib.Core.List.{List, []}
-use Rattle.bits.specs.Outcome.{Outcome, gives, refused, given}
-use Rattle.report.specs.declared.Report.{Report}
+use Rattle.bits.specs.Outcome.{gives, refused, given}
+use Rattle.report.specs.Read.{Reading}
 use Rattle.record.specs.Layout.{isFree, eventIn}
 use Rattle.record_report.specs.Reads.{messageOf}
 use Rattle.lent.specs.Catalogue.{entryAt, hasClass}
@@ -11,9 +11,9 @@ use Rattle.lent.specs.Records.{records, allOf}
 use Rattle.classes.specs.Classes.{classesOf}
 
 -- of a message
-abbrev pub messageClasses : List ℕ → Outcome Report ℕ → List ℕ
+abbrev pub messageClasses : List ℕ → Reading → List ℕ
 messageClasses catalogue (gives x) = classesOf catalogue x
-messageClasses catalogue (refused n) = []
+messageClasses catalogue (refused u) = []
 
 -- of a record: those of the report that it reads as
 unfoldable pub classesIn : (catalogue r : List ℕ) → List ℕ

@@ -8,4 +8,5 @@ pub mod Tests
 pub mod Kept
 pub mod OwnParts
 pub mod Outcomes
+pub mod Broken
 pub mod Numbers

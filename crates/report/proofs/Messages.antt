@@ -4,6 +4,7 @@ use mathlib.Core.Path.{_≡_, refl, sym, ap, subst, _∙_}
 use mathlib.Core.Bool.{Bool, true, false, cond}
 use mathlib.Core.List.{List, [], _∷_}
 use native.Mathlib.Omega.{arith}
+use lib.ListN.{take, length-take}
 use lib.Dec.{ltb, eqb}
 use borrow.Author.Tests.{eqb-true, ltb-true}
 use Rattle.bits.specs.Outcome.{gives, refused}
@@ -12,12 +13,17 @@ use Rattle.content.specs.declared.item.Item.{Item}
 use Rattle.content.specs.declared.items.Items.{Items}
 use Rattle.content.specs.declared.read.Reading as struct
 use Rattle.content.specs.declared.read.ReadAnswer.the-variants as answer
+use Rattle.content.specs.declared.read.Unread.{Unread}
+use Rattle.content.specs.declared.read.Unread.the-variants.{Unfit}
+use Rattle.content.specs.declared.content.Content.{Content}
 use Rattle.content.specs.Widths.{widths, width, sublabelled}
 use Rattle.content.specs.Items.{Reading}
 use Rattle.content.specs.Content.{content}
 use Rattle.content.specs.Packing.{itemFits, allFit}
+use Rattle.content.specs.Halves.{bitsOf}
 use Rattle.content.specs.Stored.{limit, filled, listed}
 use Rattle.content.specs.Answers.{readingOf}
+use Rattle.content.proofs.Broken.{content-unfit, breaks}
 use Rattle.content.proofs.AtMost28.{at-most-28}
 use Rattle.content.proofs.ReadIsWritten.{content-short, content-holds, items-writable}
 use Rattle.content.proofs.WrittenIsRead.{packable-fits, writable-packable}
@@ -36,24 +42,32 @@ read-items l r e a = by-reading (content l) refl
   where
     by-reading : (x : Reading) → content l ≡ x → ReadItems l (r .items)
     by-reading (gives its) h = record { its = its; reading = h; stored = ap (λ (y : struct.Reading). y .items) (e ∙ ap readingOf h) }
-    by-reading (refused n) h =
-        let b : answer.Refused n ≡ answer.Read = sym (ap (λ (y : struct.Reading). y .answer) (e ∙ ap readingOf h)) ∙ a in
+    by-reading (refused u) h =
+        let b : answer.Refused u ≡ answer.Read = sym (ap (λ (y : struct.Reading). y .answer) (e ∙ ap readingOf h)) ∙ a in
         let z : _≡_ {A = ℕ} 0 1 = cc in
         absurd (omega arith)
 
--- content that was refused is refused with the answer's number
-pub read-refused : (l : List Bool) (r : struct.Reading) (n : ℕ) → r ≡ readingOf (content l) → r .answer ≡ answer.Refused n → content l ≡ refused n
+-- content that was refused is refused as the answer says
+pub read-refused : (l : List Bool) (r : struct.Reading) (u : Unread) → r ≡ readingOf (content l) → r .answer ≡ answer.Refused u → content l ≡ refused u
 unfolding readingOf
-read-refused l r n e a = by-reading (content l) refl
+read-refused l r u e a = by-reading (content l) refl
   where
-    by-reading : (x : Reading) → content l ≡ x → content l ≡ refused n
+    by-reading : (x : Reading) → content l ≡ x → content l ≡ refused u
     by-reading (gives its) h =
-        let b : answer.Read ≡ answer.Refused n = sym (ap (λ (y : struct.Reading). y .answer) (e ∙ ap readingOf h)) ∙ a in
+        let b : answer.Read ≡ answer.Refused u = sym (ap (λ (y : struct.Reading). y .answer) (e ∙ ap readingOf h)) ∙ a in
         let z : _≡_ {A = ℕ} 0 1 = cc in
         absurd (omega arith)
-    by-reading (refused m) h =
-        let b : answer.Refused m ≡ answer.Refused n = sym (ap (λ (y : struct.Reading). y .answer) (e ∙ ap readingOf h)) ∙ a in
+    by-reading (refused v) h =
+        let b : answer.Refused v ≡ answer.Refused u = sym (ap (λ (y : struct.Reading). y .answer) (e ∙ ap readingOf h)) ∙ a in
         h ∙ ap refused (cc)
+
+-- the bits left where an item begins are among those read
+pub left-within : (c : Content) (size n left : ℕ) → content (take size (bitsOf c)) ≡ refused (Unfit n left) → left ≤ size
+left-within c size n left e =
+    let l = take size (bitsOf c) in
+    let u = content-unfit l n left e in
+    let b = breaks l n left .0 (u .1) in
+    omega (arith, b .0, length-take size (bitsOf c))
 
 -- the items that are read are at most 28, and in range
 module _ (l : List Bool) (s : Items) (h : ReadItems l s) where

@@ -10,7 +10,7 @@ use lib.Seq.{length-take-le}
 use borrow.Author.Tests.{eq-eqb, le-leb, lt-ltb}
 use Rattle.bits.specs.Bits.{bits, val}
 use Rattle.bits.specs.Fields.{fits}
-use Rattle.bits.specs.Outcome.{gives, refused, mapped}
+use Rattle.bits.specs.Outcome.{gives, refused}
 use Rattle.bits.proofs.Choice.{either}
 use Rattle.bits.proofs.Outcomes.{refused-gives-none}
 use Rattle.bits.proofs.Value.{bits-val, val-take-lt}
@@ -33,7 +33,7 @@ use Rattle.report.specs.InterRoad.{itemsAt, realBits, contentOf}
 use Rattle.report.specs.Read.{readItems, readBits}
 use Rattle.report.specs.Fits.{agrees, itemsFit, contentFits, multiFits, fitsBy, realFits, reportFits}
 use Rattle.report.proofs.Places.{place-small}
-use Rattle.report.proofs.Wholes.{length-between, whole-read, whole-refused}
+use Rattle.report.proofs.Wholes.{length-between, items-read, items-refused, whole-read, whole-refused}
 
 -- a message that reads as a report: the items of its content, and the report of these
 pub record Read (h : Head) (l : List Bool) (r : Report) : Type 0 where
@@ -43,18 +43,17 @@ pub record Read (h : Head) (l : List Bool) (r : Report) : Type 0 where
   pub is : r ≡ multiReport h (val (take (itemsAt Multi h) l)) its
 
 pub message-read : (h : Head) (l : List Bool) (r : Report) → readBits h l ≡ gives r → Read h l r
-unfolding readItems
 message-read h l r e =
     either (contentLength (length l))
     (λ w. by-reading w (content (drop (itemsAt Multi h) l)) refl (sym (whole-read h l w) ∙ e))
     (λ f. absurd (refused-gives-none (sym (whole-refused h l f) ∙ e)))
   where
     by-reading : contentLength (length l) ≡ true → (x : Reading) → content (drop (itemsAt Multi h) l) ≡ x
-        → readItems h (val (take (itemsAt Multi h) l)) (drop (itemsAt Multi h) l) ≡ gives r → Read h l r
+        → readItems h (val (take (itemsAt Multi h) l)) (length l) (drop (itemsAt Multi h) l) ≡ gives r → Read h l r
     by-reading w (gives its) c g =
-        let same : gives (multiReport h (val (take (itemsAt Multi h) l)) its) ≡ gives r = sym (ap (mapped (multiReport h (val (take (itemsAt Multi h) l)))) c) ∙ g in
+        let same : gives (multiReport h (val (take (itemsAt Multi h) l)) its) ≡ gives r = sym (items-read h _ (length l) _ its c) ∙ g in
         record { whole = w; its = its; reading = c; is = cc }
-    by-reading w (refused n) c g = absurd (refused-gives-none (sym (ap (mapped (multiReport h (val (take (itemsAt Multi h) l)))) c) ∙ g))
+    by-reading w (refused u) c g = absurd (refused-gives-none (sym (items-refused h _ (length l) _ u c) ∙ g))
 
 module _ (h : Head) (l : List Bool) (r : Report) (m : Read h l r) where
   abbrev at : ℕ

@@ -24,10 +24,18 @@ pub struct Report {
     pub form: Form,
 }
 
+// Why there is no report.
+pub enum Refusal {
+    // A number alone.
+    Plain(u8),
+    // Content that breaks: the number, 7 or 8, and the place, which is the content bit, from 0, at which the item begins that cannot be taken.
+    Broken { number: u8, place: u8 },
+}
+
 // Whether there is a report.
 pub enum Answer {
     Read,
-    Refused(u8),
+    Refused(Refusal),
 }
 
 // The answer, and the report beside it: blank on a refusal.

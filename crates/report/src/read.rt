@@ -1,22 +1,24 @@
 // From the groups of a message to its report.
 ghost use mathlib.Core.Path.{_≡_};
-ghost use Prim.Native.Nat.{_≤_, _<_};
+ghost use Prim.Native.Nat.{_≤_};
 ghost use mathlib.Core.Bool.{true};
 ghost use lib.ListN.{take};
 ghost use Rattle.bits.specs.Outcome.{refused};
-ghost use Rattle.content.specs.Halves.{bitsOf};
-ghost use Rattle.content.specs.Packing.{allFit};
+ghost use Rattle.content.specs.Halves.{bitsOf, remaining};
+ghost use Rattle.content.specs.Packing.{allFit, longest};
 ghost use Rattle.content.specs.Stored.{limit, filled, listed};
 ghost use Rattle.report.specs.Report.{singleReport, multiReport, blank as Report·blank, durationOf, diversionOf};
 ghost use Rattle.report.specs.Read.{readItems, readBits, outcomeOf};
 use crate::Answer;
 use crate::Form;
 use crate::MessageReading;
+use crate::Refusal;
 use crate::Report;
 use crate::inter_road::items_at;
 use content::content::Content;
 use content::items::Items;
 use content::read::ReadAnswer;
+use content::read::Unread;
 use content::rest::Rest;
 use word::Head;
 
@@ -49,12 +51,12 @@ impl Report {
     }
 
     // The report of a multi-group message, from its head and its content, which is the first `size` bits: 1 for a length that no groups
-    // give, 7 and 8 as items are read.
+    // give, 7 and 8 as items are read, with the place in the whole content.
     pub fn multi(head: Head, content: Content, size: usize) -> MessageReading
         ensures { λ r. ⌜ r ≡ outcomeOf (readBits head (take size (bitsOf content))) ⌝ }
     {
         if !Content::is_length(size) {
-            return refused(1);
+            return refused(Refusal::Plain(1));
         }
         let at = items_at(Form::Multi, head);
         let whole = Rest {
@@ -62,15 +64,16 @@ impl Report {
             left: size,
         };
         let rest = whole.tail(at);
-        Report::with_items(head, whole.head(at) as u16, rest.bits, rest.left)
+        Report::with_items(head, whole.head(at) as u16, size, rest)
     }
 
-    // The report of a multi-group message, from its head, its real location and the first `size` bits, which hold its items: refusals 1, 7
-    // and 8 as items are read.
-    pub fn with_items(head: Head, real: u16, content: Content, size: usize) -> MessageReading
-        ensures { λ r. ⌜ r ≡ outcomeOf (readItems head real (take size (bitsOf content))) ⌝ }
+    // The report of a multi-group message, from its head, its real location and its items, which are the rest of `whole` bits of content:
+    // refusals 1, 7 and 8 as items are read, with the place in the whole content. An inner call: it asks for no more than a content has.
+    pub fn with_items(head: Head, real: u16, whole: usize, rest: Rest) -> MessageReading
+        requires { ⌜ (rest .left ≤ whole) × (whole ≤ longest) ⌝ }
+        ensures { λ r. ⌜ r ≡ outcomeOf (readItems head real whole (remaining rest)) ⌝ }
     {
-        let reading = content::read::read(content, size);
+        let reading = content::read::read(rest.bits, rest.left);
         let answer = reading.answer;
         let items = reading.items;
         match answer {
@@ -78,17 +81,23 @@ impl Report {
                 answer: Answer::Read,
                 report: of_items(head, real, items),
             },
-            ReadAnswer::Refused(n) => refused(n),
+            ReadAnswer::Refused(unread) => match unread {
+                Unread::TooLong => refused(Refusal::Plain(1)),
+                Unread::Unfit { number, left } => refused(Refusal::Broken {
+                    number,
+                    place: (whole - left as usize) as u8,
+                }),
+            },
         }
     }
 }
 
-// The refusal's number, and no report.
-fn refused(n: u8) -> MessageReading
-    ensures { λ r. ⌜ r ≡ outcomeOf (refused n) ⌝ }
+// A refusal, and no report.
+fn refused(refusal: Refusal) -> MessageReading
+    ensures { λ r. ⌜ r ≡ outcomeOf (refused refusal) ⌝ }
 {
     MessageReading {
-        answer: Answer::Refused(n),
+        answer: Answer::Refused(refusal),
         report: Report::new(),
     }
 }

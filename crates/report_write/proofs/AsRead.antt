@@ -8,7 +8,7 @@ use lib.ListN.{length, take, drop}
 use borrow.Author.Tests.{ltb-true}
 use Rattle.bits.specs.Bits.{val}
 use Rattle.bits.specs.Fields.{pack, fits}
-use Rattle.bits.specs.Outcome.{gives, mapped}
+use Rattle.bits.specs.Outcome.{gives}
 use Rattle.bits.proofs.Choice.{chosen}
 use Rattle.bits.proofs.Value.{val-bits-lt}
 use Rattle.bits.proofs.Fields.{flat-words}
@@ -18,7 +18,6 @@ use Rattle.word.specs.Format.{headFormat, laterFormat}
 use Rattle.word.specs.Kind.{kindOf}
 use Rattle.word.specs.Compose.{composed, singleValues, firstValues, laterValues, isIndex}
 use Rattle.word.proofs.Inverse.{compose-parse}
-use Rattle.content.specs.Items.{Reading}
 use Rattle.content.specs.Content.{content}
 use Rattle.content.specs.Packing.{groupBits, groups, padded}
 use Rattle.content.specs.Stored.{limit, listed}
@@ -28,11 +27,11 @@ use Rattle.report.specs.declared.Form.{Form}
 use Rattle.report.specs.declared.Form.the-variants as form
 use Rattle.report.specs.Report.{multiReport}
 use Rattle.report.specs.InterRoad.{itemsAt, realBits, contentOf}
-use Rattle.report.specs.Read.{readItems, readBits, readReport}
+use Rattle.report.specs.Read.{readBits, readReport}
 use Rattle.report.specs.Fits.{realFits, multiFits}
 use Rattle.report.proofs.Multi.{fit-writable, items-fit, content-short}
 use Rattle.report.proofs.Places.{length-real}
-use Rattle.report.proofs.Wholes.{whole-read}
+use Rattle.report.proofs.Wholes.{items-read, whole-read}
 use Rattle.report.proofs.OwnParts.{multi-is-report}
 use Rattle.report_write.specs.Write.{contentsOf}
 
@@ -72,10 +71,11 @@ module _ (r : Report) (sized : length (r .items .places) ≡ limit) (real : real
       ∙ written-is-read (realBits r) (listed (r .items)) (fit-writable (r .items) (items-fit r f)) (content-short r f)
 
   pub contents-read : readReport (r .head) (contentsOf (contentOf r)) ≡ gives r
-  unfolding contentsOf readReport readItems
+  unfolding contentsOf readReport
   contents-read =
       let k = groups (length (contentOf r)) - 1 in
       ap (readBits (r .head)) (flat-words groupBits k all (length-padded (contentOf r) ∙ mul-comm groupBits k))
       ∙ whole-read (r .head) all (padded-length (contentOf r) (content-short r f))
-      ∙ ap₂ (λ (n : ℕ) (x : Reading). mapped (multiReport (r .head) n) x) real-back items-back
+      ∙ items-read (r .head) _ (length all) _ (listed (r .items)) items-back
+      ∙ ap (λ (n : ℕ). gives (multiReport (r .head) n (listed (r .items)))) real-back
       ∙ ap gives (multi-is-report r sized f e)

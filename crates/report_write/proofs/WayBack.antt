@@ -10,7 +10,7 @@ use lib.ListN.{length, take, drop}
 use lib.Seq.{take-at}
 use Rattle.bits.specs.Bits.{val}
 use Rattle.bits.specs.Fields.{words, pack, fits}
-use Rattle.bits.specs.Outcome.{gives}
+use Rattle.bits.specs.Outcome.{gives, refusedAs}
 use Rattle.bits.proofs.Choice.{either, and-left, chosen, passed-over}
 use Rattle.bits.proofs.Value.{val-take-lt}
 use Rattle.bits.proofs.Fields.{length-words}
@@ -25,12 +25,14 @@ use Rattle.report.specs.declared.Form.the-variants as form
 use Rattle.report.specs.Report.{singleReport}
 use Rattle.report.specs.InterRoad.{contentOf}
 use Rattle.report.specs.Read.{readReport}
+use Rattle.report.specs.Answers.{numberOf}
 use Rattle.report.specs.Fits.{singleFits}
 use Rattle.report.proofs.Multi.{content-short}
 use Rattle.report.proofs.OwnParts.{single-is-report}
 use Rattle.transmission.specs.Message.{Group, Falling, end, next, WellFormed, alone, joined}
 use Rattle.transmission.specs.Demand3.{All}
 use Rattle.transmission.proofs.WholeMessage.{wordsIn}
+use Rattle.assembler.specs.Reading.{numbered}
 use Rattle.assembler.specs.OneMessage.{GivesBack}
 use Rattle.assembler.proofs.OneMessage.{one-message}
 use Rattle.bits.specs.declared.Writing.the-variants.{Written, Refused}
@@ -66,22 +68,22 @@ module _ (ci : ℕ) (i : isIndex ci ≡ true) where
 
   -- a first group before them, and the mark on the first of them
   multi-formed : (h : Head) (cs : List ℕ) (r : Report) → fits headFormat (firstValues ci h) ≡ true → 1 ≤ length cs → length cs ≤ 4 → InRange cs → readReport h cs ≡ gives r
-      → WellFormed singleReport readReport (heard (val (pack headFormat (firstValues ci h)) ∷ laterWords ci cs)) r
+      → WellFormed singleReport (numbered readReport) (heard (val (pack headFormat (firstValues ci h)) ∷ laterWords ci cs)) r
   unfolding laterWords
   multi-formed h [] r first some few range reads = absurd (omega arith)
   multi-formed h (c ∷ cs) r first some few range reads =
-      joined (first-kind ci h i first) (later-kind ci 1 (length cs) c i (later-fits ci 1 (length cs) c (range .0) (omega (arith, index-lt ci i)) (omega arith) (omega arith))) (falling cs (omega arith) (range .1)) reads
+      joined (first-kind ci h i first) (later-kind ci 1 (length cs) c i (later-fits ci 1 (length cs) c (range .0) (omega (arith, index-lt ci i)) (omega arith) (omega arith))) (falling cs (omega arith) (range .1)) (ap (refusedAs numberOf) reads)
 
 -- a report whose items stand in 28 places, and an index, which can be written together
 module _ (ci : ℕ) (r : Report) (sized : length (r .items .places) ≡ limit) (ok : canWrite ci r ≡ true) where
-  single-formed : r .form ≡ form.Single → WellFormed singleReport readReport (heard (singleWords r)) r
+  single-formed : r .form ≡ form.Single → WellFormed singleReport (numbered readReport) (heard (singleWords r)) r
   unfolding singleWords singleFits
   single-formed e =
       let f = single-fits ci r ok e in
       let ranges = and-left (fits headFormat (singleValues (r .duration) (r .diversion) (r .head))) (wellPlaced (r .items) && eqb (r .items .count) 0) f in
-      subst (WellFormed singleReport readReport (heard (singleWords r))) (single-is-report r sized (real-fits ci r ok) f e) (alone (single-kind (r .duration) (r .diversion) (r .head) ranges))
+      subst (WellFormed singleReport (numbered readReport) (heard (singleWords r))) (single-is-report r sized (real-fits ci r ok) f e) (alone (single-kind (r .duration) (r .diversion) (r .head) ranges))
 
-  groups-formed : r .form ≡ form.Multi → WellFormed singleReport readReport (heard (multiWords ci r)) r
+  groups-formed : r .form ≡ form.Multi → WellFormed singleReport (numbered readReport) (heard (multiWords ci r)) r
   unfolding multiWords contentsOf
   groups-formed e =
       let f = multi-fits ci r ok e in
@@ -93,13 +95,13 @@ module _ (ci : ℕ) (r : Report) (sized : length (r .items .places) ≡ limit) (
       multi-formed ci i (r .head) (contentsOf l) r (first-fits ci r f i) (omega arith) (omega arith) (contents-lt n (padded l)) (contents-read r sized (real-fits ci r ok) f e)
 
   -- the words are those of a well-formed message, whose report it is
-  pub well-formed : WellFormed singleReport readReport (heard (wordsOf ci r)) r
+  pub well-formed : WellFormed singleReport (numbered readReport) (heard (wordsOf ci r)) r
   unfolding wordsOf wordsBy
   well-formed = by-form (r .form) refl
     where
-      by-form : (f : Form) → r .form ≡ f → WellFormed singleReport readReport (heard (wordsBy (r .form) ci r)) r
-      by-form form.Single e = subst (λ (f : Form). WellFormed singleReport readReport (heard (wordsBy f ci r)) r) (sym e) (single-formed e)
-      by-form form.Multi e = subst (λ (f : Form). WellFormed singleReport readReport (heard (wordsBy f ci r)) r) (sym e) (groups-formed e)
+      by-form : (f : Form) → r .form ≡ f → WellFormed singleReport (numbered readReport) (heard (wordsBy (r .form) ci r)) r
+      by-form form.Single e = subst (λ (f : Form). WellFormed singleReport (numbered readReport) (heard (wordsBy f ci r)) r) (sym e) (single-formed e)
+      by-form form.Multi e = subst (λ (f : Form). WellFormed singleReport (numbered readReport) (heard (wordsBy f ci r)) r) (sym e) (groups-formed e)
 
   pub words-back : GivesBack readReport (wordsOf ci r) r
   words-back = subst (λ (ws : List ℕ). GivesBack readReport ws r) (words-heard (wordsOf ci r)) (one-message readReport well-formed)

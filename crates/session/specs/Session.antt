@@ -3,6 +3,7 @@ use Prim.Native.Nat.{ℕ, _+_, _*_, _%_, _^_}
 use mathlib.Core.List.{List, [], _∷_, _++_}
 use lib.ListN.{drop}
 use Rattle.report.specs.declared.Report.{Report}
+use Rattle.report.specs.declared.Refusal.the-variants.{Plain}
 use Rattle.rds.specs.declared.Run.{Run}
 use Rattle.rds.specs.declared.Run.the-variants as run
 use Rattle.assembler.specs.declared.Assembler.the-variants as assembler
@@ -30,7 +31,7 @@ counted answer.Nothing n = n
 counted answer.Report n = next n
 counted (answer.Tuning w) n = n
 counted (answer.Administration w) n = n
-counted (answer.Refused k) n = n
+counted (answer.Refused x) n = n
 
 -- a report or a refusal prints its line; nothing yet, tuning and administration words print nothing
 unfoldable pub answerText : Answer → Report → ℕ → ℕ → List ℕ
@@ -38,7 +39,7 @@ answerText answer.Nothing r number frame = []
 answerText answer.Report r number frame = reportLine number r
 answerText (answer.Tuning w) r number frame = []
 answerText (answer.Administration w) r number frame = []
-answerText (answer.Refused n) r number frame = refusalLine frame n
+answerText (answer.Refused x) r number frame = refusalLine frame x
 
 -- one word
 abbrev pub afterStep : Session → Step → Session
@@ -69,7 +70,7 @@ afterCarried s (refuses n) = s
 
 unfoldable pub carriedText : Session → Carries → List ℕ
 carriedText s (gives ws) = wordsText s ws
-carriedText s (refuses n) = refusalLine (s .frames) n
+carriedText s (refuses n) = refusalLine (s .frames) (Plain n)
 
 -- one frame, its kind and body: it is counted, and then what it carries
 abbrev pub counting : Session → Run → Session

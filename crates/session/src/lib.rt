@@ -15,6 +15,7 @@ use lines::line::ROOM;
 use lines::line::put_refusal;
 use lines::line::put_report;
 use rds::Run;
+use report::Refusal;
 use report::Report;
 
 // What is kept between two frames.
@@ -122,7 +123,7 @@ impl Session {
         match carried {
             Carried::Words(n) => session.words(&words[..n], out, at),
             Carried::Refused(n) => {
-                let end = put_refusal(out, at, frames, n);
+                let end = put_refusal(out, at, frames, Refusal::Plain(n));
                 Told { session, at: end }
             }
         }
@@ -172,7 +173,7 @@ fn put_answer(
 {
     match answer {
         Answer::Report => put_report(out, at, number, report),
-        Answer::Refused(n) => put_refusal(out, at, frame, n),
+        Answer::Refused(refusal) => put_refusal(out, at, frame, refusal),
         Answer::Nothing => at,
         Answer::Tuning(_) => at,
         Answer::Administration(_) => at,

@@ -5,7 +5,8 @@ use std::ops::Range;
 use proved::{DrmUnit, Fig, Head, Item, RdsGroup, Report};
 use second::recording::{self, Frame};
 use sender::blocks::{self, SentFig, MARKER};
-use sender::FIG_WORDS;
+use sender::random::Random;
+use sender::{Break, FIG_WORDS};
 
 /// The most words of a message.
 pub const MESSAGE_WORDS: usize = 5;
@@ -28,6 +29,8 @@ pub const ADDITIONAL_EVENTS: Range<u16> = 201..231;
 
 /// Of the rough input one piece in so many is lost, and as many are refused.
 const ROUGH: usize = 5;
+/// Of the random input.
+const SEED: u64 = 14819;
 
 /// A single-group report.
 pub fn single_at(location: u16) -> Report {
@@ -131,6 +134,19 @@ pub fn rough_words(words: &[u64]) -> Vec<u64> {
         _ => Some(word),
     };
     words.iter().enumerate().filter_map(rough).collect()
+}
+
+/// The words of reports, in place of one in four a message whose content is refused at any place.
+pub fn broken_words(reports: &[(Report, u8)]) -> Vec<u64> {
+    let random = &mut Random::new(SEED);
+    let mut broken = Vec::new();
+    for (i, report) in reports.iter().enumerate() {
+        broken.extend(match i % 4 {
+            0 => Break::of_message(random).words(random),
+            _ => words(&[*report]),
+        });
+    }
+    broken
 }
 
 pub fn group_of(word: u64) -> RdsGroup {

@@ -203,6 +203,10 @@ fn bench(programs: Option<(PathBuf, PathBuf)>) -> io::Result<()> {
         &input::words(&input::multi_reports(10_000)),
     );
     bench_assembler(
+        "word of multi-group messages through the assembler, one in four refused",
+        &input::broken_words(&input::multi_reports(10_000)),
+    );
+    bench_assembler(
         "word of INTER-ROAD messages through the assembler",
         &input::words(&input::inter_road_reports(10_000)),
     );

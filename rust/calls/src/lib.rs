@@ -1,5 +1,6 @@
 //! The second program's calls in the proved library's form: structs and slices. On a refusal the
-//! other fields of an answer are 0, but for the state that goes on with the next call.
+//! other fields of an answer are 0, but for the state that goes on with the next call and the place
+//! at which content broke.
 
 #![deny(warnings)]
 
@@ -327,6 +328,7 @@ pub fn assembler_step(state: proved::Assembler, word: u64) -> AssemblerAnswer {
         },
         Answer::Refused(refusal) => AssemblerAnswer {
             refusal: refusal.number(),
+            broken_at: refusal.broken_at().into(),
             ..none
         },
     }
@@ -532,28 +534,25 @@ pub fn record_read(record: &[u8]) -> TableReading {
 }
 
 fn of_reading(read: Refused<Option<Entry>>) -> TableReading {
-    let read = read.map(|entry| {
-        entry.map_or_else(TableReading::default, |entry| {
-            let Entry {
-                report,
-                service,
-                expiry,
-            } = entry;
-            TableReading {
-                report: of_report(&report),
-                service: proved::Service {
-                    country: service.country,
-                    ltn: service.ltn,
-                    sid: service.sid,
-                },
-                expiry,
-                used: 1,
-                refusal: 0,
-            }
-        })
-    });
-    let (reading, refusal) = split(read);
-    TableReading { refusal, ..reading }
+    match read {
+        Ok(None) => TableReading::default(),
+        Ok(Some(entry)) => TableReading {
+            report: of_report(&entry.report),
+            service: proved::Service {
+                country: entry.service.country,
+                ltn: entry.service.ltn,
+                sid: entry.service.sid,
+            },
+            expiry: entry.expiry,
+            used: 1,
+            ..TableReading::default()
+        },
+        Err(refusal) => TableReading {
+            refusal: refusal.number(),
+            broken_at: refusal.broken_at().into(),
+            ..TableReading::default()
+        },
+    }
 }
 
 pub fn expiry(minute: u32, lto: i8, life: u16) -> ExpiryAnswer {

@@ -5,7 +5,7 @@ use crate::rds::BYTE;
 use crate::tally::Call;
 use crate::Trial;
 use proved::{DrmReading, DrmUnit, Fig, FigReading, Written};
-use sender::{Message, HEADED_WORDS, UNIT_WORDS};
+use sender::{Break, Message, HEADED_WORDS, UNIT_WORDS};
 
 /// What stands in a lent word before a call.
 pub const WORD: u64 = 0xA5A5_5A5A_0F0F_F0F0;
@@ -300,7 +300,8 @@ impl Trial {
         let refused = self.random.once_in(8);
         if refused {
             whole = false;
-            words.extend(sender::refused_message(&mut self.random).1);
+            let broken = Break::of_message(&mut self.random);
+            words.extend(broken.words(&mut self.random));
         }
         let room = if self.random.once_in(6) {
             self.random.index(130)

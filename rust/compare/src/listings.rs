@@ -5,15 +5,18 @@ use std::path::{Path, PathBuf};
 use std::process::{self, Command, Stdio};
 use std::{env, io};
 
+use crate::broken::Content;
 use crate::tally::{fail, Call};
 use crate::Trial;
-use proved::{DrmUnit, Fig};
-use sender::{Message, FIG_WORDS, HEADED_WORDS, UNIT_WORDS};
+use proved::{BrokenAt, DrmUnit, Fig};
+use sender::{Break, Message, FIG_WORDS, HEADED_WORDS, REAL_BITS, UNIT_WORDS};
 
 /// More than the listing program reads at once.
 const BEYOND_BUFFER: usize = 150_000;
 /// Lengths of frames at the limits, and one that is right but for a carry.
 const LENGTHS: [u16; 8] = [0, 1, 2, 3, 130, 131, 132, 266];
+
+const HEADER: &str = "no form event location dir extent div dur items\n";
 
 /// The two programs.
 pub struct Programs {
@@ -21,12 +24,47 @@ pub struct Programs {
     pub second: PathBuf,
 }
 
-fn run(program: &Path, recording: &Path) -> io::Result<(Option<i32>, Vec<u8>)> {
+/// An exit status and what was printed.
+type Listing = (Option<i32>, Vec<u8>);
+
+fn run(program: &Path, recording: &Path) -> io::Result<Listing> {
     let output = Command::new(program)
         .stdin(File::open(recording)?)
         .stderr(Stdio::inherit())
         .output()?;
     Ok((output.status.code(), output.stdout))
+}
+
+/// Ends if two listings of a recording differ.
+fn compare(what: &str, recording: &Path, one: &Listing, other: &Listing) {
+    if one == other {
+        return;
+    }
+    println!("the recording is kept at {}", recording.display());
+    let [one, other] = [one, other].map(|(status, listing)| {
+        let listing = String::from_utf8_lossy(listing);
+        let lines: Vec<_> = listing.lines().map(str::to_owned).collect();
+        (*status, lines)
+    });
+    let same = one.1.iter().zip(&other.1).position(|(a, b)| a != b);
+    let same = same.unwrap_or(one.1.len().min(other.1.len()));
+    let next = |(status, lines): &(_, Vec<String>)| (*status, lines.get(same).cloned());
+    let what = format!("Listing: {what}: exit status and first line that differs, after so many");
+    fail(&what, &same, &next(&one), &next(&other));
+}
+
+/// Whether a line of a refusal has a place exactly if content was refused.
+fn is_placed(line: &str) -> bool {
+    let numbers = line.split(' ').skip(1).map(str::parse);
+    let numbers: Result<Vec<u64>, _> = numbers.collect();
+    match numbers.as_deref() {
+        Ok(&[_, refusal @ (7 | 8), at]) => {
+            let at = u8::try_from(at);
+            at.is_ok_and(|at| Content::some_breaks(refusal as u8, at))
+        }
+        Ok([_, refusal]) => !matches!(refusal, 7 | 8),
+        _ => false,
+    }
 }
 
 /// Adds a frame of the house form: length, kind, body.
@@ -40,7 +78,10 @@ impl Trial {
     /// A body of a kind, now and then damaged.
     fn bodies(&mut self, bodies: &mut Vec<(u16, Vec<u8>)>) {
         let kind = 1 + self.random.below(3) as u16;
-        let mut words = Message::random(&mut self.random).words;
+        let mut words = match self.random.once_in(8) {
+            true => Break::of_message(&mut self.random).words(&mut self.random),
+            false => Message::random(&mut self.random).words,
+        };
         if self.random.once_in(5) {
             words.remove(self.random.index(words.len()));
         }
@@ -171,9 +212,70 @@ impl Trial {
         recording
     }
 
+    /// Bodies that carry words: each in a group twice, or all in a FIG or in a data unit.
+    fn carry(&mut self, kind: u16, words: Vec<u64>) -> Vec<(u16, Vec<u8>)> {
+        match kind {
+            1 => {
+                let random = &mut self.random;
+                let group = |word| (1, sender::group(sender::random_group(random, word)));
+                let twice = words.into_iter().flat_map(|word| [word; 2]);
+                twice.map(group).collect()
+            }
+            2 => {
+                let tcid = self.random.byte(3);
+                vec![(2, sender::fig(Fig { d1: 0, tcid }, &words))]
+            }
+            _ => vec![(3, self.unit(words))],
+        }
+    }
+
+    /// A recording of messages with every break, at home and INTER-ROAD, and its listing.
+    fn broken_recording(&mut self) -> (Vec<u8>, String) {
+        let breaks = [0, REAL_BITS].map(Break::all).concat();
+        let mut rest = &breaks[..];
+        let mut bodies = Vec::new();
+        let mut listing = HEADER.to_owned();
+        while !rest.is_empty() {
+            let kind = 1 + self.random.below(3) as u16;
+            // Several messages in a data unit.
+            let most = if kind == 3 { 3 } else { 1 };
+            let (breaks, after) = rest.split_at(1 + self.random.index(most.min(rest.len())));
+            let words = breaks.iter().flat_map(|it| it.words(&mut self.random));
+            let words = words.collect();
+            bodies.extend(self.carry(kind, words));
+            for broken in breaks {
+                let (refusal, BrokenAt(at)) = (broken.refusal(), broken.broken_at());
+                listing += &format!("! {} {refusal} {at}\n", bodies.len());
+            }
+            rest = after;
+        }
+        let mut recording = Vec::new();
+        for (kind, body) in &bodies {
+            add_frame(&mut recording, *kind, body);
+        }
+        (recording, listing)
+    }
+
+    /// Lists a recording with both programs.
+    fn list(&mut self, programs: &Programs, path: &Path, recording: &[u8]) -> io::Result<Listing> {
+        fs::write(path, recording)?;
+        let proved = run(&programs.proved, path)?;
+        let second = run(&programs.second, path)?;
+        compare("proved, second", path, &proved, &second);
+        let listing = String::from_utf8_lossy(&proved.1);
+        let mut refusals = listing.lines().filter(|line| line.starts_with('!'));
+        let misplaced = refusals.find(|line| !is_placed(line));
+        self.tally.expect(Call::Listing, &path, misplaced, None);
+        self.tally.count(Call::Listing, 0);
+        Ok(proved)
+    }
+
     /// Compares the listings of recordings, from empty ones to large ones.
     pub fn listings(&mut self, programs: &Programs, count: usize) -> io::Result<()> {
         let path = env::temp_dir().join(format!("compare-{}.recording", process::id()));
+        let (recording, meant) = self.broken_recording();
+        let listing = self.list(programs, &path, &recording)?;
+        compare("listed, sent", &path, &listing, &(Some(0), meant.into()));
         for i in 0..count {
             let recording = match i {
                 0 => vec![],
@@ -185,24 +287,7 @@ impl Trial {
                     self.damaged_recording(size)
                 }
             };
-            fs::write(&path, &recording)?;
-            let proved = run(&programs.proved, &path)?;
-            let second = run(&programs.second, &path)?;
-            if proved != second {
-                println!("the recording is kept at {}", path.display());
-                let [proved, second] = [&proved, &second].map(|(status, listing)| {
-                    let listing = String::from_utf8_lossy(listing);
-                    let lines: Vec<_> = listing.lines().map(str::to_owned).collect();
-                    (*status, lines)
-                });
-                let mut lines = proved.1.iter().zip(&second.1);
-                let same = lines.position(|(a, b)| a != b);
-                let same = same.unwrap_or(proved.1.len().min(second.1.len()));
-                let next = |(status, lines): &(_, Vec<String>)| (*status, lines.get(same).cloned());
-                let what = "Listing: exit status and first line that differs, after so many";
-                fail(what, &same, &next(&proved), &next(&second));
-            }
-            self.tally.count(Call::Listing, 0);
+            self.list(programs, &path, &recording)?;
         }
         fs::remove_file(&path)
     }

@@ -10,6 +10,7 @@ use listings::Programs;
 use sender::random::Random;
 use tally::Tally;
 
+mod broken;
 mod carriers;
 mod classes;
 mod faults;
@@ -56,7 +57,6 @@ impl Trial {
         times(400, Self::report_write);
         times(40, Self::assembler_walk);
         times(600, Self::assembler_state);
-        times(100, Self::assembler_refusal);
         times(600, Self::fig_read);
         times(900, Self::fib_read);
         times(100, Self::fib_past);
@@ -68,6 +68,9 @@ impl Trial {
         times(100, Self::expiry);
         times(20, Self::transmission);
         let lists = self.lists();
+        for _ in 0..200 {
+            self.any_break(&lists);
+        }
         for _ in 0..200 {
             self.record_byte(&lists);
         }
@@ -137,6 +140,7 @@ fn main() -> ExitCode {
     trial.fib_headers();
     trial.fib_rooms();
     trial.drm_faults();
+    trial.every_break();
     for _ in 0..options.rounds {
         trial.round();
     }

@@ -5,7 +5,7 @@ use std::ops::Range;
 use proved::RECORD_BYTES as RECORD;
 use proved::{Report, Service};
 use sender::random::Random;
-use sender::Message;
+use sender::{Break, Message};
 
 use crate::classes::{self, Classes, STORED};
 use crate::lists::{Lists, CLASSES};
@@ -65,7 +65,7 @@ pub fn at_home(location: Location, service: Service) -> bool {
 }
 
 /// Gives a record these parts as its content.
-fn set_content(record: &mut [u8; RECORD], parts: &[u32]) {
+pub fn set_content(record: &mut [u8; RECORD], parts: &[u32]) {
     let mut fields: Vec<_> = parts.iter().map(|&part| (part.into(), 28)).collect();
     fields.resize(4, (0, 28));
     record[1] = 1 + parts.len() as u8;
@@ -160,7 +160,10 @@ impl Trial {
                 let parts: Vec<_> = (0..groups).map(|_| random.bits(28) as u32).collect();
                 set_content(record, &parts);
             }
-            1 => set_content(record, &sender::refused_parts(random)),
+            1 => {
+                let broken = Break::random(random, 0);
+                set_content(record, &broken.parts(random));
+            }
             _ => {
                 let event = self.event(lists, &[0, 3]);
                 record[6..8].copy_from_slice(&event.to_le_bytes());

@@ -228,39 +228,6 @@ impl Trial {
         }
     }
 
-    /// A message of which the content is refused, at home and INTER-ROAD.
-    pub fn assembler_refusal(&mut self) {
-        let (head, words, refusal) = sender::refused_message(&mut self.random);
-        let mut state = Assembler::default();
-        let mut refusals = vec![];
-        for &word in &words {
-            let answer = self.step(state, word);
-            state = answer.next;
-            refusals.push(answer.refusal);
-        }
-        let mut meant = vec![0; words.len()];
-        meant[words.len() - 1] = refusal;
-        let found = (refusals, state);
-        let meant = (meant, Assembler::default());
-        self.tally.expect(Call::AssemblerStep, &words, found, meant);
-        for (of, home, abroad) in [
-            (
-                7,
-                "assembler: refusal 7 at home",
-                "assembler: refusal 7, INTER-ROAD",
-            ),
-            (
-                8,
-                "assembler: refusal 8 at home",
-                "assembler: refusal 8, INTER-ROAD",
-            ),
-        ] {
-            let foreign = sender::is_flt(head.location);
-            self.tally.mark(home, refusal == of && !foreign);
-            self.tally.mark(abroad, refusal == of && foreign);
-        }
-    }
-
     /// One call on a state that calls may or may not reach.
     pub fn assembler_state(&mut self) {
         let random = &mut self.random;

@@ -98,6 +98,7 @@ impl Trial {
         (*table, *clock) = a;
     }
 
+    /// Reads a record at any place, now and then past the last.
     fn read(&mut self, table: &[u8]) {
         let count = table.len() / RECORD;
         let random = &mut self.random;
@@ -106,6 +107,11 @@ impl Trial {
             1 => random.number() as usize,
             _ => random.index(count + 1),
         };
+        self.read_at(table, place);
+    }
+
+    /// Reads the record at a place, in its table and alone.
+    pub fn read_at(&mut self, table: &[u8], place: usize) -> TableReading {
         let proved = proved::table_read(table, place);
         let second = calls::table_read(table, place);
         let input = (table, place);
@@ -131,6 +137,7 @@ impl Trial {
         self.tally.mark("read: a single-group report", single);
         self.tally.mark("read: a multi-group report", multi);
         self.tally.mark("read: a free record", free);
+        proved
     }
 
     /// The location of a report read from a record, as its bytes say.

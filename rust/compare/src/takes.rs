@@ -516,7 +516,7 @@ impl Trial {
             service,
             expiry: stored::expiry(minute, lto, life),
             used: 1,
-            refusal: 0,
+            ..TableReading::default()
         };
         self.tally.expect(Call::TableRead, &input, read, meant);
         self.tally.count(Call::TableTake, 0);

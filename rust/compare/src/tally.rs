@@ -4,6 +4,9 @@ use std::collections::BTreeMap;
 use std::fmt::Debug;
 use std::process;
 
+use proved::{BrokenAt, NOT_BROKEN};
+
+use crate::broken::{self, Content, Place};
 use crate::faults::{Fault, Faults};
 
 /// The calls, each with the refusals that it can give.
@@ -70,22 +73,33 @@ impl Call {
 pub trait Answer: Copy + PartialEq + Debug {
     fn refusal(&self) -> u8;
 
-    /// Its refusal with all else 0, but for a state that goes on with the next call.
+    /// Where content broke, of the answers that say it.
+    fn broken_at(&self) -> BrokenAt {
+        NOT_BROKEN
+    }
+
+    /// Its refusal with all else 0, but for a state that goes on with the next call and the place
+    /// where content broke.
     fn blank(&self) -> Self;
 }
 
-/// Answers that have a refusal, with the state that goes on.
+/// Answers that have a refusal, with the state that goes on and where content broke.
 macro_rules! answers {
-    ($($name:ident { $($state:ident)? })*) => {$(
+    ($($name:ident { $($state:ident)? } $(+ $broken_at:ident)?)*) => {$(
         impl Answer for proved::$name {
             fn refusal(&self) -> u8 {
                 self.refusal
             }
 
+            $(fn $broken_at(&self) -> BrokenAt {
+                self.$broken_at
+            })?
+
             fn blank(&self) -> Self {
                 Self {
                     refusal: self.refusal,
                     $($state: self.$state,)?
+                    $($broken_at: self.$broken_at,)?
                     ..Self::default()
                 }
             }
@@ -101,13 +115,13 @@ answers! {
     RdsReading {}
     RdsReceived { run }
     Written {}
-    AssemblerAnswer { next }
+    AssemblerAnswer { next } + broken_at
     FigReading {}
     FibReading {}
     DrmReading {}
     TableAnswer {}
     Renewal {}
-    TableReading {}
+    TableReading {} + broken_at
     ExpiryAnswer {}
 }
 
@@ -144,12 +158,19 @@ pub struct Tally {
     answers: BTreeMap<(Call, u8), u64>,
     /// Refusals 10 for one fault alone.
     faults: BTreeMap<(Call, Fault), u64>,
+    /// Refusals 7 and 8 by the place that the sender knew.
+    breaks: BTreeMap<Place, u64>,
     marks: BTreeMap<&'static str, u64>,
 }
 
 /// The line of refusals for one fault alone.
 fn fault_line(call: &str, fault: Fault) -> String {
     format!("{call}: 10 for {} alone", fault.name())
+}
+
+/// The line of refusals of content.
+fn break_line(content: Content, refusal: u8) -> String {
+    format!("{}: {refusal}", content.name())
 }
 
 /// Prints a difference and ends.
@@ -168,7 +189,8 @@ impl Tally {
     }
 
     /// Compares the two programs' answers to one call, and what was lent. A refusal must be one
-    /// that the call can give, leave what was lent as at entry, and answer nothing else.
+    /// that the call can give, leave what was lent as at entry, and answer nothing else. Refusals 7
+    /// and 8 have a place where content can break, and no other answer has one.
     pub fn agree_lent<A: Answer, L: PartialEq + Debug>(
         &mut self,
         call: Call,
@@ -194,6 +216,15 @@ impl Tally {
                 fail(&what, input, &proved, &meant);
             }
         }
+        let broken_at = answer.broken_at();
+        let placed = match refusal {
+            7 | 8 => Content::some_breaks(refusal, broken_at.0),
+            _ => broken_at == NOT_BROKEN,
+        };
+        if !placed {
+            let what = format!("{call:?}: refusal, place that it cannot have");
+            fail(&what, input, &refusal, &broken_at);
+        }
         self.count(call, refusal);
     }
 
@@ -216,6 +247,11 @@ impl Tally {
 
     pub fn count(&mut self, call: Call, refusal: u8) {
         *self.answers.entry((call, refusal)).or_default() += 1;
+    }
+
+    /// Counts that content broke where the sender knew.
+    pub fn mark_break(&mut self, content: Content, refusal: u8, BrokenAt(at): BrokenAt) {
+        *self.breaks.entry((content, refusal, at)).or_default() += 1;
     }
 
     /// Counts that something happened which a run must reach.
@@ -244,6 +280,15 @@ impl Tally {
                 println!("{}: {count}", fault_line(name, *fault));
             }
         }
+        for content in Content::ALL {
+            for refusal in [7, 8] {
+                let places = (content, refusal, 0)..=(content, refusal, u8::MAX);
+                let counts = self.breaks.range(places).map(|(_, count)| count);
+                let (places, least) = (counts.clone().count(), counts.min().unwrap_or(&0));
+                let line = break_line(content, refusal);
+                println!("{line} at {places} places, at each {least} times or more");
+            }
+        }
         for (mark, count) in &self.marks {
             println!("{mark}: {count}");
         }
@@ -265,6 +310,11 @@ impl Tally {
                 if fault.refused_by(call) && !self.faults.contains_key(&(call, fault)) {
                     missing.push(fault_line(name, fault));
                 }
+            }
+        }
+        for (content, refusal, at) in broken::places() {
+            if !self.breaks.contains_key(&(content, refusal, at)) {
+                missing.push(format!("{} at {at}", break_line(content, refusal)));
             }
         }
         let marks = self.marks.iter().filter(|(_, &count)| count == 0);

@@ -10,6 +10,26 @@ pub const RECORD_BYTES: usize = 42;
 pub const DROP: u8 = 0;
 pub const KEEP: u8 = 1;
 
+/// The bit at which content broke that is refused (7, 8), or [`NOT_BROKEN`].
+#[repr(transparent)]
+#[derive(Clone, Copy, Debug, PartialEq, Eq)]
+pub struct BrokenAt(pub u8);
+
+/// In every other answer.
+pub const NOT_BROKEN: BrokenAt = BrokenAt(255);
+
+impl Default for BrokenAt {
+    fn default() -> Self {
+        NOT_BROKEN
+    }
+}
+
+impl From<Option<u8>> for BrokenAt {
+    fn from(at: Option<u8>) -> Self {
+        at.map_or(NOT_BROKEN, Self)
+    }
+}
+
 /// Structs of numbers, each with its size in bytes.
 macro_rules! values {
     ($($(#[$doc:meta])* $name:ident, $size:literal { $($field:ident: $type:ty,)* })*) => {$(
@@ -73,6 +93,7 @@ values! {
         word: u64,
         kind: u8,
         refusal: u8,
+        broken_at: BrokenAt,
     }
 
     /// Kind 0 is a single group, 1 a first group, 2 a later group, 3 a tuning word,
@@ -219,6 +240,7 @@ values! {
         expiry: u32,
         used: u8,
         refusal: u8,
+        broken_at: BrokenAt,
     }
 
     ExpiryAnswer, 8 {
@@ -237,6 +259,8 @@ const _: () = {
     assert!(offset_of!(Assembler, contents) == 12);
     assert!(offset_of!(AssemblerAnswer, next) == 136);
     assert!(offset_of!(AssemblerAnswer, word) == 160);
+    assert!(offset_of!(AssemblerAnswer, refusal) == 169);
+    assert!(offset_of!(AssemblerAnswer, broken_at) == 170);
     assert!(offset_of!(WordFields, head) == 12);
     assert!(offset_of!(WordFields, kind) == 23);
     assert!(offset_of!(RdsGroup, word) == 8);
@@ -252,4 +276,5 @@ const _: () = {
     assert!(offset_of!(TableReading, service) == 136);
     assert!(offset_of!(TableReading, expiry) == 140);
     assert!(offset_of!(TableReading, refusal) == 145);
+    assert!(offset_of!(TableReading, broken_at) == 146);
 };

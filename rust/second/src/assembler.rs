@@ -225,7 +225,7 @@ mod tests {
     #[test]
     fn refused_content_empties() {
         let (answers, state) = calls(&[FIRST, 0x02_4FFF_FFFF]);
-        assert_eq!(answers[1], Answer::Refused(Refusal::Label15));
+        assert_eq!(answers[1], Answer::Refused(Refusal::Label15 { at: 0 }));
         assert_eq!(state, Assembler::Empty);
     }
 

@@ -25,13 +25,10 @@ pub struct Item {
 }
 
 impl Item {
-    /// Bits of the value; refuses 8 label 15.
+    /// Bits of the value; none for label 15.
     #[inline]
-    fn width(self) -> Result<u32, Refusal> {
-        match WIDTHS.get(usize::from(self.label)) {
-            Some(&width) => Ok(u32::from(width)),
-            None => Err(Refusal::Label15),
-        }
+    fn width(self) -> Option<u32> {
+        WIDTHS.get(usize::from(self.label)).copied().map(u32::from)
     }
 }
 
@@ -90,24 +87,58 @@ impl Content {
         (self.bits << (CONTENT_BITS * i as u32) >> (128 - CONTENT_BITS)) as u32
     }
 
-    /// Reads the items; refuses 7 what does not fit, 8 label 15.
+    /// Reads the items; refuses 7 what does not fit, 8 label 15, each with its place.
     #[inline]
     pub fn read(self) -> Result<Items, Refusal> {
-        read_items(self.bits, self.length())
+        self.read_from(0)
     }
 
     /// Hands on the items one by one; refuses as [`Content::read`], after those that read.
     #[inline]
     pub fn each_item(self, each: impl FnMut(Item)) -> Result<(), Refusal> {
-        each_item(self.bits, self.length(), each)
+        self.each_from(0, each)
     }
 
     /// Reads the real location and the items after it; refuses as [`Content::read`].
     #[inline]
     pub fn read_foreign(self) -> Result<(u16, Items), Refusal> {
         let real = (self.bits >> (128 - REAL_BITS)) as u16;
-        let left = self.length() - REAL_BITS;
-        Ok((real, read_items(self.bits << REAL_BITS, left)?))
+        Ok((real, self.read_from(REAL_BITS)?))
+    }
+
+    /// Reads the items from bit `at` on.
+    #[inline]
+    fn read_from(self, at: u32) -> Result<Items, Refusal> {
+        let mut items = Items::NONE;
+        self.each_from(at, |item| {
+            items.places[usize::from(items.count)] = item;
+            items.count += 1;
+        })?;
+        Ok(items)
+    }
+
+    /// Hands on the items from bit `at` on, one by one.
+    #[inline]
+    fn each_from(self, mut at: u32, mut each: impl FnMut(Item)) -> Result<(), Refusal> {
+        let mut bits = self.bits << at;
+        while bits != 0 {
+            let left = self.length() - at;
+            let here = at as u8;
+            require(left >= LABEL_BITS, Refusal::Content { at: here })?;
+            let mut item = Item {
+                label: (bits >> (128 - LABEL_BITS)) as u8,
+                value: 0,
+            };
+            let width = item.width().ok_or(Refusal::Label15 { at: here })?;
+            require(left >= LABEL_BITS + width, Refusal::Content { at: here })?;
+            // The label and up to 16 bits of value are the top of 32 bits.
+            let top = (bits >> 96) as u32 & ((1 << (32 - LABEL_BITS)) - 1);
+            item.value = (top >> (32 - LABEL_BITS - width)) as u16;
+            each(item);
+            bits <<= LABEL_BITS + width;
+            at += LABEL_BITS + width;
+        }
+        Ok(())
     }
 
     /// The number of its bits.
@@ -145,38 +176,6 @@ impl Content {
     }
 }
 
-/// Reads the items from the top of `left` bits, zero below.
-#[inline]
-fn read_items(bits: u128, left: u32) -> Result<Items, Refusal> {
-    let mut items = Items::NONE;
-    each_item(bits, left, |item| {
-        items.places[usize::from(items.count)] = item;
-        items.count += 1;
-    })?;
-    Ok(items)
-}
-
-/// Hands on the items from the top of `left` bits, zero below, one by one.
-#[inline]
-fn each_item(mut bits: u128, mut left: u32, mut each: impl FnMut(Item)) -> Result<(), Refusal> {
-    while bits != 0 {
-        require(left >= LABEL_BITS, Refusal::Content)?;
-        let mut item = Item {
-            label: (bits >> (128 - LABEL_BITS)) as u8,
-            value: 0,
-        };
-        let width = item.width()?;
-        require(left >= LABEL_BITS + width, Refusal::Content)?;
-        // The label and up to 16 bits of value are the top of 32 bits.
-        let top = (bits >> 96) as u32 & ((1 << (32 - LABEL_BITS)) - 1);
-        item.value = (top >> (32 - LABEL_BITS - width)) as u16;
-        each(item);
-        bits <<= LABEL_BITS + width;
-        left -= LABEL_BITS + width;
-    }
-    Ok(())
-}
-
 /// The items from the top, zero below, and their number of bits, at most 112; else refuses 9.
 #[inline]
 fn write_items(items: &Items) -> Result<(u128, u32), Refusal> {
@@ -189,7 +188,7 @@ fn write_items(items: &Items) -> Result<(u128, u32), Refusal> {
     let mut bits = 0u128;
     let mut length = 0;
     for item in used {
-        let width = item.width().map_err(|_| Refusal::Unfit)?;
+        let width = item.width().ok_or(Refusal::Unfit)?;
         let fit = u32::from(item.value) < 1 << width && length + LABEL_BITS + width <= MOST_BITS;
         require(fit, Refusal::Unfit)?;
         length += LABEL_BITS + width;
@@ -217,7 +216,7 @@ mod tests {
         assert_eq!(read(&[0x350_2000]), Ok(vec![(3, 10), (0, 2)]));
         assert_eq!(read(&[0]), Ok(vec![]));
         assert_eq!(read(&[0; 4]), Ok(vec![]));
-        assert_eq!(read(&[0xFFF_FFFF]), Err(Refusal::Label15));
+        assert_eq!(read(&[0xFFF_FFFF]), Err(Refusal::Label15 { at: 0 }));
     }
 
     #[test]
@@ -230,11 +229,11 @@ mod tests {
     #[allow(clippy::unusual_byte_groupings)] // grouped as labels and values
     fn what_does_not_fit() {
         // Six separators and then label 10 with no room for its value.
-        assert_eq!(read(&[0xEEE_EEEA]), Err(Refusal::Content));
+        assert_eq!(read(&[0xEEE_EEEA]), Err(Refusal::Content { at: 24 }));
         // 25 bits of items, then three bits that are not all zero.
         let items = 0b0010_00000_0011_00000_0001_000_000;
         assert_eq!(read(&[items]), Ok(vec![(2, 0), (3, 0), (1, 0)]));
-        assert_eq!(read(&[items | 1]), Err(Refusal::Content));
+        assert_eq!(read(&[items | 1]), Err(Refusal::Content { at: 25 }));
     }
 
     #[test]
@@ -274,8 +273,8 @@ mod tests {
         assert_eq!(over, Err(Refusal::Unfit));
         assert!(Content::write(&separators(25)).is_ok());
         // Label 10 with 8 bits left, then label 15.
-        assert_eq!(read(&[0x01F_4AFF]), Err(Refusal::Content));
-        assert_eq!(read(&[0x01F_4FFF]), Err(Refusal::Label15));
+        assert_eq!(read(&[0x01F_4AFF]), Err(Refusal::Content { at: 16 }));
+        assert_eq!(read(&[0x01F_4FFF]), Err(Refusal::Label15 { at: 16 }));
         assert_eq!(read(&[]), Err(Refusal::Length));
         assert_eq!(read(&[0; 5]), Err(Refusal::Length));
     }

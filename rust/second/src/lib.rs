@@ -25,46 +25,72 @@ pub mod word;
 
 mod bits;
 
-/// Why a call was refused; the discriminants are the numbers of the rules.
+/// Why a call was refused.
 #[derive(Clone, Copy, Debug, PartialEq, Eq)]
-#[repr(u8)]
 pub enum Refusal {
     /// Wrong length.
-    Length = 1,
+    Length,
     /// Other group, FIG, AID, variant or kind.
-    Other = 2,
+    Other,
     /// Reserved bit, m = 0 or padding.
-    Reserved = 3,
+    Reserved,
     /// The check word disagrees.
-    Crc = 4,
+    Crc,
     /// Later group out of turn.
-    OutOfTurn = 5,
+    OutOfTurn,
     /// Continuity index 7.
-    Index7 = 6,
-    /// Content that does not read as items.
-    Content = 7,
-    /// Label 15.
-    Label15 = 8,
+    Index7,
+    /// Content that does not read as items from this bit on.
+    Content { at: u8 },
+    /// Label 15 at this bit of the content.
+    Label15 { at: u8 },
     /// Report, field, word or state unfit.
-    Unfit = 9,
+    Unfit,
     /// Table, catalogue or lives malformed.
-    Malformed = 10,
+    Malformed,
     /// Event unknown to the catalogue.
-    UnknownEvent = 11,
+    UnknownEvent,
     /// A location's code is an FLT code.
-    Foreign = 12,
+    Foreign,
     /// The minute goes back or is too large.
-    Minute = 13,
+    Minute,
     /// No room in the table.
-    NoRoom = 14,
+    NoRoom,
     /// Lent buffer too small.
-    Buffer = 15,
+    Buffer,
 }
 
 impl Refusal {
     /// The number of the rules, 1 to 15.
+    #[inline]
     pub const fn number(self) -> u8 {
-        self as u8
+        match self {
+            Self::Length => 1,
+            Self::Other => 2,
+            Self::Reserved => 3,
+            Self::Crc => 4,
+            Self::OutOfTurn => 5,
+            Self::Index7 => 6,
+            Self::Content { .. } => 7,
+            Self::Label15 { .. } => 8,
+            Self::Unfit => 9,
+            Self::Malformed => 10,
+            Self::UnknownEvent => 11,
+            Self::Foreign => 12,
+            Self::Minute => 13,
+            Self::NoRoom => 14,
+            Self::Buffer => 15,
+        }
+    }
+
+    /// For 7 and 8 the bit of the content, from 0, at which the item begins that could not be
+    /// taken; a real location's bits count.
+    #[inline]
+    pub const fn broken_at(self) -> Option<u8> {
+        match self {
+            Self::Content { at } | Self::Label15 { at } => Some(at),
+            _ => None,
+        }
     }
 }
 

@@ -151,6 +151,10 @@ impl<W: Write> Listing<W> {
         line.number(self.frames);
         line.text(b" ");
         line.number(refusal.number().into());
+        if let Some(at) = refusal.broken_at() {
+            line.text(b" ");
+            line.number(at.into());
+        }
         self.out.write_all(line.end())
     }
 }

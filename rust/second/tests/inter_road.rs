@@ -3,15 +3,17 @@
 #![deny(warnings)]
 
 use common::{head, stored, Table, MINUTE};
-use second::assembler::{Answer, Assembler};
+use second::assembler::Answer;
 use second::drm::{self, Unit};
-use second::recording::{self, Frame};
 use second::report::Report;
 use second::table::{read_record, RECORD};
 use second::word::Head;
 use second::Refusal;
+use words::{assembled, listed};
 
 mod common;
+#[path = "common/words.rs"]
+mod words;
 
 /// FLT codes: country 13 and table 1, country 1 and table 9, and the service's own.
 const FLT: u16 = 0xFF41;
@@ -34,19 +36,6 @@ fn single() -> Report {
         location: FLT,
     };
     Report::single(3, 0, head)
-}
-
-/// The last answer of calls from the empty state. The others are nothing yet, and it is empty again.
-fn assembled(words: &[u64]) -> Answer {
-    let mut state = Assembler::Empty;
-    let mut answer = Answer::Nothing;
-    for &word in words {
-        assert_eq!(answer, Answer::Nothing);
-        let step = state.step(word);
-        (state, answer) = (step.next, step.answer);
-    }
-    assert_eq!(state, Assembler::Empty);
-    answer
 }
 
 fn written(report: &Report, index: u8) -> Result<Vec<u64>, Refusal> {
@@ -96,14 +85,6 @@ fn words_both_ways() {
 }
 
 #[test]
-fn content_refused() {
-    let words = [FIRST, 0x02_401F_4AFF];
-    assert_eq!(assembled(&words), Answer::Refused(Refusal::Content));
-    let words = [FIRST, 0x02_401F_4FFF];
-    assert_eq!(assembled(&words), Answer::Refused(Refusal::Label15));
-}
-
-#[test]
 fn what_a_writer_refuses() {
     let separators = [(14, 0)].repeat(25);
     let unfit = Err(Refusal::Unfit);
@@ -141,27 +122,8 @@ fn a_data_unit_of_whole_messages() {
 
 #[test]
 fn the_listing_prints_the_code() {
-    let mut recording = Vec::new();
-    for word in [FIRST, 0x02_401F_4040] {
-        let mut body = [0; 8];
-        let group = second::rds::Group {
-            pi: 0x5201,
-            tp: 0,
-            pty: 0,
-            word,
-        };
-        group.write(&mut body).unwrap();
-        let frame = Frame {
-            kind: recording::RDS,
-            body: &body,
-        };
-        frame.write(&mut recording).unwrap();
-        frame.write(&mut recording).unwrap();
-    }
-    let mut listing = Vec::new();
-    recording::list(&recording[..], &mut listing).unwrap();
-    let listing = String::from_utf8(listing).unwrap();
-    assert_eq!(listing.lines().last(), Some("1 M 401 65345 0 1 0 2 1"));
+    let listing = listed(&[FIRST, 0x02_401F_4040]);
+    assert_eq!(listing, "1 M 401 65345 0 1 0 2 1\n");
 }
 
 #[test]

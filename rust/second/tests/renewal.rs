@@ -211,8 +211,8 @@ fn a_take_matches_by_the_stored_classes() {
 #[test]
 fn records_that_a_renewal_refuses() {
     for (mut table, refusal) in [
-        (cut_item(), Some(Refusal::Content)),
-        (label_15(), Some(Refusal::Label15)),
+        (cut_item(), Some(Refusal::Content { at: 24 })),
+        (label_15(), Some(Refusal::Label15 { at: 0 })),
         (unknown_event(), None),
         (null_event(), None),
     ] {

@@ -8,11 +8,13 @@ use random::Random;
 
 mod bits;
 pub mod blocks;
+mod broken;
 mod check;
 mod figs;
 pub mod random;
 
 pub use bits::Bits;
+pub use broken::Break;
 pub use check::{check_word, checked};
 pub use figs::{fig, fig_words, FIG_WORDS};
 
@@ -30,7 +32,7 @@ pub const ADDITIONAL_EVENT: u16 = 9;
 /// The most bits of content.
 pub const CONTENT_BITS: usize = 112;
 /// Bits of a real location, which stand before the items.
-const REAL_BITS: usize = 16;
+pub const REAL_BITS: usize = 16;
 /// Words are below this.
 pub const WORD_LIMIT: u64 = 1 << 37;
 /// The most words in a data unit: without a header, in 128 bytes.
@@ -241,12 +243,17 @@ pub fn is_inter_road(report: &Report) -> bool {
     report.form == 1 && is_flt(report.head.location)
 }
 
-/// The bits that a multi-group message of this head has for items.
-pub fn item_bits(head: Head) -> usize {
+/// The bits that a multi-group message of this head has before its items.
+fn real_bits(head: Head) -> usize {
     match is_flt(head.location) {
-        true => CONTENT_BITS - REAL_BITS,
-        false => CONTENT_BITS,
+        true => REAL_BITS,
+        false => 0,
     }
+}
+
+/// The most bits that it has for items.
+pub fn item_bits(head: Head) -> usize {
+    CONTENT_BITS - real_bits(head)
 }
 
 /// Parts of 28 bits, at least one, the last one filled with zero bits.
@@ -262,19 +269,12 @@ pub fn item_parts(items: &[Item]) -> Vec<u32> {
     parts_of(bits)
 }
 
-/// The content of a multi-group report.
-fn content(report: &Report) -> Bits {
-    let mut bits = Bits::default();
-    if is_inter_road(report) {
-        bits.add(report.real_location, REAL_BITS);
-    }
-    bits.add_items(&report.items[..report.item_count]);
-    bits
-}
-
 /// The parts that a multi-group report takes.
 pub fn parts(report: &Report) -> Vec<u32> {
-    parts_of(content(report))
+    let mut bits = Bits::default();
+    bits.add(report.real_location, real_bits(report.head));
+    bits.add_items(&report.items[..report.item_count]);
+    parts_of(bits)
 }
 
 /// The words of a multi-group message.
@@ -285,56 +285,6 @@ fn words_of(head: Head, ci: u8, parts: &[u32]) -> Vec<u64> {
         later_word(ci, u8::from(i == 0), gsi as u8, part)
     }));
     words
-}
-
-/// Adds to the bits of content what is refused after them, and gives the refusal; none if there is
-/// no room.
-fn refuse(random: &mut Random, bits: &mut Bits) -> Option<u8> {
-    let groups = parts_of(bits.clone()).len();
-    let mut left = 28 * groups - bits.0.len();
-    if left == 0 && groups < 4 {
-        left = 28;
-    }
-    // Labels with a value that does not fit.
-    let long = |label: &usize| 4 + WIDTHS[*label] as usize > left;
-    let long: Vec<_> = (1..WIDTHS.len()).filter(long).collect();
-    let refusal = match left {
-        0 => return None,
-        1..4 => {
-            bits.add(1 + random.below((1 << left) - 1), left);
-            7
-        }
-        _ if long.is_empty() || random.once_in(2) => {
-            bits.add(15_u8, 4);
-            bits.add(random.bits(left as u32 - 4), left - 4);
-            8
-        }
-        _ => {
-            bits.add(random.pick(&long) as u64, 4);
-            bits.add(random.bits(left as u32 - 4), left - 4);
-            7
-        }
-    };
-    Some(refusal)
-}
-
-/// The head and the words of a message whose content is refused after some items, and the refusal.
-pub fn refused_message(random: &mut Random) -> (Head, Vec<u64>, u8) {
-    let report = random_multi(random);
-    let mut bits = content(&report);
-    let Some(refusal) = refuse(random, &mut bits) else {
-        return refused_message(random);
-    };
-    let words = words_of(report.head, random.ci(), &parts_of(bits));
-    (report.head, words, refusal)
-}
-
-/// The parts of items alone after which the content is refused, if there is room.
-pub fn refused_parts(random: &mut Random) -> Vec<u32> {
-    let mut bits = Bits::default();
-    bits.add_items(&random_items(random, CONTENT_BITS));
-    refuse(random, &mut bits);
-    parts_of(bits)
 }
 
 /// A message: its report and its words.

@@ -13,6 +13,7 @@ use Rattle.framing.specs.declared.Frame.the-variants.{End, Part, Bad, Whole}
 use Rattle.recording.specs.Listing.{whole}
 use lib.ListN.{length, drop, length-drop}
 use borrow.Author.Needs.{needs}
+use Rattle.report.specs.declared.Refusal.the-variants.{Plain}
 use Rattle.lines.specs.Line.{refusalLine}
 use Rattle.framing.specs.Frame.{frameOf}
 use Rattle.session.specs.Session.{next, afterFrame, frameText}
@@ -63,7 +64,7 @@ returns c =
     let at-hand = f .ensures ∙ ap frameOf (tail-part (l .from) (a .s .now)) in
     going-end (a .begun) (a .s .now) (a .last) (a .out .now) (l .session) (l .from) (l .at) (l .out) (l .inv) _ (call .result) (call .last .0) (call .ensures .0)
     (f .result) (c .before .before .before .before .before .is-ended .result) (sym at-hand) (not-whole (f .result) (c .before .before .before .before .before .before .match .keys2))
-    (ap (λ (b : Bool). cond b (refusalLine (next (l .session .frames)) 1) []) (c .before .before .before .is-refused .ensures))
+    (ap (λ (b : Bool). cond b (refusalLine (next (l .session .frames)) (Plain 1)) []) (c .before .before .before .is-refused .ensures))
     (c .before .before .before .before .before .is-ended .ensures)
     (omega (arith, call .ensures .1, call .kept .0, c .before .before .before .before .before .before .before .before .before .loop-test .taken))
 

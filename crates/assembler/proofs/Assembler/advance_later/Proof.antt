@@ -4,6 +4,7 @@ use mathlib.Core.Bool.{false}
 use Rattle.report.specs.Read.{readReport}
 use Rattle.assembler.specs.declared.Assembler.{Assembler}
 use Rattle.transmission.specs.Step.{later}
+use Rattle.assembler.specs.Reading.{multiReads}
 use Rattle.assembler.specs.State.{stateOf, assemblerOf}
 use Rattle.assembler.specs.Fits.{fits}
 use Rattle.assembler.specs.Answers.{answerOf, given}
@@ -26,13 +27,13 @@ returns c =
     let none = c .before .enum-told .given .1 in
     c .advanced .ensures
     ∙ ap (λ (x : Assembler). advanced x false) none
-    ∙ sym (ap (λ (x : Assembler). advanceOf (given (later readReport (stateOf x) (a .ci) (a .second) (a .gsi) (a .content)))) none)
+    ∙ sym (ap (λ (x : Assembler). advanceOf (given (later (multiReads readReport) (stateOf x) (a .ci) (a .second) (a .gsi) (a .content)))) none)
 
 returns-2 : tie.Need-returns-2
 returns-2 c =
     let a = c .before .before .before .before .args in
     c .advance-open .ensures
-    ∙ sym (ap (λ (x : Assembler). advanceOf (given (later readReport (stateOf x) (a .ci) (a .second) (a .gsi) (a .content)))) (c .before .before .self .given .1))
+    ∙ sym (ap (λ (x : Assembler). advanceOf (given (later (multiReads readReport) (stateOf x) (a .ci) (a .second) (a .gsi) (a .content)))) (c .before .before .self .given .1))
 
 pub advance-later-spec : {M : Type 1} → statement M
 advance-later-spec =

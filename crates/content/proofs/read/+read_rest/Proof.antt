@@ -24,11 +24,11 @@ use Rattle.content.proofs.rest.Rest.take_item.Reads as take-item
 use Rattle.content.proofs.read.+read_rest.{statement}
 use Rattle.content.proofs.read.+read_rest.Tie.{close}
 
-abbrev μ : Measures 2 kinds.ps ℕ
+abbrev μ : Measures 3 kinds.ps ℕ
 μ κs a = a .0 .left
 
-abbrev at-measure : ℕ → In 2 kinds.ps
-at-measure t = and 2 kinds.ps (is 2 kinds.ps μ t) reads.Pre
+abbrev at-measure : ℕ → In 3 kinds.ps
+at-measure t = and 3 kinds.ps (is 3 kinds.ps μ t) reads.Pre
 
 -- what the callees ask and ensure; a call of itself asks a smaller measure besides
 abbrev callees : ℕ → lts.Claims
@@ -37,7 +37,7 @@ callees t = (
   is-zero.Learnt,
   take-item.Asked,
   take-item.Learnt,
-  and 2 kinds.ps (falls 2 kinds.ps _<_ μ t) reads.Pre,
+  and 3 kinds.ps (falls 3 kinds.ps _<_ μ t) reads.Pre,
   reads.Post,
 )
 
@@ -52,7 +52,7 @@ module _ (t : ℕ) where
       let p = c .before .before .pre .1 in
       let found = inCells (a .count .now) (a .cells .now) in
       let z : allZero (remaining (a .rest)) ≡ true = sym (c .before .is-zero .ensures) ∙ c .if1 .taken in
-      (p .0, subst (λ (x : Reading). Told x 0 found) (sym (found-all (listed found) (remaining (a .rest)) z)) (refl, sym (p .2)))
+      (p .0, subst (λ (x : Reading). Told x 0 (a .left .now) found) (sym (found-all (listed found) (remaining (a .rest)) z)) (refl, sym (p .2)))
 
   take-item-requires : lts.Need-take-item-requires (callees t) (at-measure t) reads.Post
   take-item-requires c κs = omega arith
@@ -96,25 +96,25 @@ module _ (t : ℕ) where
 
   read-rest-requires : lts.Need-read-rest-requires (callees t) (at-measure t) reads.Post
   read-rest-requires c κs =
-      let d = c .before .before .before .before .before .before in
+      let d = c .before .before .before .before .before .before .before in
       let a = d .before .before .before .args in
       let p = d .before .before .before .pre .1 in
-      let x = c .before .before .before .before .item .given in
+      let x = c .before .before .before .before .before .item .given in
       let n = a .count .now in
       let cells = a .cells .now in
       let four = took-four (a .rest) (d .take-item .result) (d .take-item .ensures .0) (x .0 .0) (x .0 .1 .0) (x .1) (omega arith) (d .take-item .ensures .1) in
       let put = put-item n cells (x .0 .0) (omega arith) (omega arith) (p .2) in
       (omega arith, (length-set (set cells (2 * n) (x .0 .0 .label)) (2 * n + 1) (x .0 .0 .value) ∙ length-set cells (2 * n) (x .0 .0 .label) ∙ p .0, omega arith, refilled (listed (inCells n cells) ++ (x .0 .0 ∷ [])) _ put))
 
-  enum-known-n : lts.Need-enum-known-n (callees t) (at-measure t) reads.Post
-  enum-known-n c = search needs
+  enum-known-number : lts.Need-enum-known-number (callees t) (at-measure t) reads.Post
+  enum-known-number c = search needs
 
   returns-2 : lts.Need-returns-2 (callees t) (at-measure t) reads.Post
   returns-2 c =
-      let d = c .before .before .before .before .before .before .before in
+      let d = c .before .before .before .before .before .before .before .before in
       let a = d .before .before .before .args in
       let p = d .before .before .before .pre .1 in
-      let x = c .before .before .before .before .before .item .given in
+      let x = c .before .before .before .before .before .before .item .given in
       let n = a .count .now in
       let cells = a .cells .now in
       let found = listed (inCells n cells) in
@@ -123,7 +123,7 @@ module _ (t : ℕ) where
       let z : allZero (remaining (a .rest)) ≡ false = sym (d .before .before .is-zero .ensures) ∙ d .before .if1 .left in
       let more = found-one found (remaining (a .rest)) (x .0 .0) (remaining (x .0 .1 .0)) z (took-item (a .rest) (d .take-item .result) (d .take-item .ensures .0) (x .0 .0) (x .0 .1 .0) (x .1)) in
       let now = ap listed put ∙ listed-filled (found ++ (x .0 .0 ∷ [])) in
-      (c .read-rest .ensures .0, subst (λ (y : Reading). Told y (c .read-rest .result) (inCells (c .read-rest .last .1 .0) (c .read-rest .last .1 .1 .0))) (ap (λ (l : List Item). appended l (items (remaining (x .0 .1 .0)))) now ∙ sym more) (c .read-rest .ensures .1))
+      (c .read-rest .ensures .0, subst (λ (y : Reading). Told y (c .read-rest .result) (c .read-rest .last .1 .0) (inCells (c .read-rest .last .1 .1 .0) (c .read-rest .last .1 .1 .1 .0))) (ap (λ (l : List Item). appended l (items (remaining (x .0 .1 .0)))) now ∙ sym more) (c .read-rest .ensures .1))
 
   returns-3 : lts.Need-returns-3 (callees t) (at-measure t) reads.Post
   unfolding Told
@@ -131,11 +131,13 @@ module _ (t : ℕ) where
       let d = c .before .before .before in
       let a = d .before .before .before .args in
       let p = d .before .before .before .pre .1 in
-      let x = c .before .n .given in
+      let x = c .before .number .given in
+      let n = x .0 .0 in
+      let left = x .0 .1 .0 in
       let found = inCells (a .count .now) (a .cells .now) in
       let z : allZero (remaining (a .rest)) ≡ false = sym (d .before .before .is-zero .ensures) ∙ d .before .if1 .left in
-      let e = found-refused (listed found) (remaining (a .rest)) (x .0 .0) z (took-none (a .rest) (d .take-item .result) (d .take-item .ensures .0) (x .0 .0) (x .1)) in
-      (p .0, subst (λ (y : Reading). Told y (x .0 .0) found) (sym e) (refl, took-number (a .rest) (d .take-item .result) (d .take-item .ensures .0) (x .0 .0) (x .1)))
+      let e = found-refused (listed found) (remaining (a .rest)) n left z (took-none (a .rest) (d .take-item .result) (d .take-item .ensures .0) n left (x .1)) in
+      (p .0, subst (λ (y : Reading). Told y n left found) (sym e) (refl, took-number (a .rest) (d .take-item .result) (d .take-item .ensures .0) n left (x .1)))
 
 pub +read-rest-spec : {M : Type 1} → statement M
 +read-rest-spec = close μ λ t. lts.spec (callees t) (at-measure t) reads.Post
@@ -152,6 +154,6 @@ pub +read-rest-spec : {M : Type 1} → statement M
     (element-write-cells-2 t)
     (add-count t)
     (read-rest-requires t)
-    (enum-known-n t)
+    (enum-known-number t)
     (returns-2 t)
     (returns-3 t)

@@ -74,7 +74,7 @@ module _ (t : ℕ) where
       let l = remaining (d .before .before .before .args .rest) in
       let x = c .enum-told .given in
       let z : allZero l ≡ false = sym (d .before .before .is-zero .ensures) ∙ d .before .if1 .left in
-      sym (ap given (items-unfit l (x .0 .0) z (took-none (d .before .before .before .args .rest) (d .take-item .result) (d .take-item .ensures .0) (x .0 .0) (x .1))))
+      sym (ap given (items-unfit l (x .0 .0) (x .0 .1 .0) z (took-none (d .before .before .before .args .rest) (d .take-item .result) (d .take-item .ensures .0) (x .0 .0) (x .0 .1 .0) (x .1))))
 
 pub +rest-reads-spec : {M : Type 1} → statement M
 +rest-reads-spec = close μ λ t. lts.spec (callees t) (at-measure t) reads.Post

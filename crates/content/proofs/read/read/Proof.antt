@@ -42,18 +42,18 @@ returns-2 : tie.Need-returns-2
 unfolding remaining
 returns-2 c =
     let r = c .before .before .before .read-rest in
-    let b = c .before .before .before .before .before .before in
+    let b = c .before .before .before .before .before .before .before in
     ap (λ (s : Items). let x : read.Reading = record { answer = readAnswer.Read; items = s } in x) (c .from-cells .ensures)
-    ∙ told-read (r .result) (inCells (r .last .1 .0) (r .last .1 .1 .0)) _ (r .ensures .1) (c .before .before .if2 .taken)
+    ∙ told-read (r .result) (r .last .1 .0) (inCells (r .last .1 .1 .0) (r .last .1 .1 .1 .0)) _ (r .ensures .1) (c .before .before .if2 .taken)
     ∙ ap readingOf (from-none (b .before .args .c) (b .before .args .size) (b .if1 .left))
 
 returns-3 : tie.Need-returns-3
 unfolding remaining
 returns-3 c =
     let r = c .before .before .read-rest in
-    let b = c .before .before .before .before .before in
+    let b = c .before .before .before .before .before .before in
     c .refused2 .ensures
-    ∙ ap readingOf (told-refused (r .result) (inCells (r .last .1 .0) (r .last .1 .1 .0)) _ (r .ensures .1) (c .before .if2 .left) ∙ from-none (b .before .args .c) (b .before .args .size) (b .if1 .left))
+    ∙ ap readingOf (told-refused (r .result) (r .last .1 .0) (inCells (r .last .1 .1 .0) (r .last .1 .1 .1 .0)) _ (r .ensures .1) (c .before .if2 .left) ∙ from-none (b .before .args .c) (b .before .args .size) (b .if1 .left))
 
 pub read-spec : {M : Type 1} → statement M
 read-spec =

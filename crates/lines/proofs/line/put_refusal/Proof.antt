@@ -1,44 +1,57 @@
--- The parts of a line one after the other.
-use Prim.Native.Nat.{_≤_}
+-- The frame's number and the refusal, and its place where it has one.
 use native.Mathlib.Omega.{arith}
-use mathlib.Core.Path.{_∙_}
-use mathlib.Core.List.{[], _∷_, _++_}
-use lib.ListN.{length}
+use mathlib.Core.Path.{sym, ap}
 use borrow.Author.Needs.{needs}
-use Rattle.lines.specs.Line.{newline, fields, refusalLine}
-use Rattle.lines.proofs.Puts.{put-then}
-use Rattle.lines.proofs.Rooms.{refusal-length, two-fields}
+use Rattle.lines.specs.Line.{refusalLine}
+use Rattle.lines.proofs.Puts.{put-as}
+use Rattle.lines.proofs.Rooms.{two-fit, three-fit}
 use Rattle.lines.proofs.line.put_refusal.Statement.{statement}
 use Rattle.lines.proofs.line.put_refusal.Tie as tie
 
-put-byte-requires : tie.Need-put-byte-requires
-put-byte-requires c κs = omega (arith, c .before .before .pre)
+put-marked-requires : tie.Need-put-marked-requires
+put-marked-requires c κs =
+    let start = c .before .before .before .before .before .before in
+    let x = c .before .before .before .refusal .given .0 in
+    omega (arith, start .pre, two-fit (start .args .frame) (x .0) (omega arith) (omega arith))
 
-put-fields-requires : tie.Need-put-fields-requires
-put-fields-requires c κs = omega (arith, c .before .before .before .before .before .before .before .pre, c .before .before .before .before .put-byte .ensures .0, c .before .before .before .before .put-byte .kept .0, refusal-length (c .before .before .before .before .before .before .before .args .number) (c .before .before .before .before .before .before .before .args .refusal), two-fields (c .before .before .before .before .before .before .before .args .number) (c .before .before .before .before .before .before .before .args .refusal) (omega arith) (omega arith))
-
-put-byte-requires-2 : tie.Need-put-byte-requires-2
-put-byte-requires-2 c κs = omega (arith, c .before .before .before .before .before .before .before .before .before .before .before .pre, c .before .before .before .put-fields .ensures .0, c .before .before .before .put-fields .kept .0, c .before .before .before .before .before .before .before .before .put-byte .ensures .0, c .before .before .before .before .before .before .before .before .put-byte .kept .0, refusal-length (c .before .before .before .before .before .before .before .before .before .before .before .args .number) (c .before .before .before .before .before .before .before .before .before .before .before .args .refusal), two-fields (c .before .before .before .before .before .before .before .before .before .before .before .args .number) (c .before .before .before .before .before .before .before .before .before .before .before .args .refusal) (omega arith) (omega arith))
-
-same-length : tie.Need-same-length
-same-length c = c .before .before .put-byte2 .kept .0 ∙ c .before .before .before .before .before .before .put-fields .kept .0 ∙ c .before .before .before .before .before .before .before .before .before .before .before .put-byte .kept .0
+put-marked-requires-2 : tie.Need-put-marked-requires-2
+put-marked-requires-2 c κs =
+    let start = c .before .before .before .before .before .before in
+    let x = c .before .before .before .refusal2 .given .0 in
+    omega (arith, start .pre, three-fit (start .args .frame) (x .0) (x .1 .0) (omega arith) (omega arith) (omega arith))
 
 returns : tie.Need-returns
 unfolding refusalLine
 returns c =
-    let a = c .before .before .before .before .before .before .before .before .before .before .before .before .before .before .args in
-    let start : a .at ≤ length (a .out .now) = omega (arith, c .before .before .before .before .before .before .before .before .before .before .before .before .before .before .pre) in
-    let first = put-then (a .at) (33 ∷ []) (fields (a .number ∷ a .refusal ∷ [])) (a .out .now) start (c .before .before .before .before .before .before .before .before .before .before .before .put-byte .ensures) (c .before .before .before .before .before .before .put-fields .ensures) in
-    let all = put-then (a .at) ((33 ∷ []) ++ fields (a .number ∷ a .refusal ∷ [])) (newline ∷ []) (a .out .now) start first (c .before .before .put-byte2 .ensures) in
-    (all, omega (arith, all .0, refusal-length (c .before .before .before .before .before .before .before .before .before .before .before .before .before .before .args .number) (c .before .before .before .before .before .before .before .before .before .before .before .before .before .before .args .refusal), two-fields (c .before .before .before .before .before .before .before .before .before .before .before .before .before .before .args .number) (c .before .before .before .before .before .before .before .before .before .before .before .before .before .before .args .refusal) (omega arith) (omega arith)))
+    let start = c .before .before .before .before .before .before .before .before .before in
+    let a = start .args in
+    let x = c .before .before .before .before .before .before .refusal .given in
+    let put = c .before .before .put-marked .ensures in
+    (put-as (a .at) (a .out .now) _ _ (sym (ap (refusalLine (a .frame)) (x .1))) put, omega (arith, put .0, two-fit (a .frame) (x .0 .0) (omega arith) (omega arith)))
+
+returns-2 : tie.Need-returns-2
+unfolding refusalLine
+returns-2 c =
+    let start = c .before .before .before .before .before .before .before .before .before in
+    let a = start .args in
+    let x = c .before .before .before .before .before .before .refusal2 .given in
+    let put = c .before .before .put-marked2 .ensures in
+    (put-as (a .at) (a .out .now) _ _ (sym (ap (refusalLine (a .frame)) (x .1))) put, omega (arith, put .0, three-fit (a .frame) (x .0 .0) (x .0 .1 .0) (omega arith) (omega arith) (omega arith)))
 
 pub put-refusal-spec : {M : Type 1} → statement M
 put-refusal-spec =
     tie.close
     (tie.spec
-    put-byte-requires
     (λ c. search needs)
-    put-fields-requires
-    put-byte-requires-2
-    same-length
-    returns)
+    (λ c. search needs)
+    (λ c. search needs)
+    put-marked-requires
+    (λ c. search needs)
+    (λ c. search needs)
+    (λ c. search needs)
+    (λ c. search needs)
+    put-marked-requires-2
+    (λ c. search needs)
+    returns
+    (λ c. search needs)
+    returns-2)

@@ -1,10 +1,12 @@
 -- The single-group report, or the items of the content.
 use mathlib.Core.Path.{sym, ap, ap₂, _∙_}
 use Rattle.bits.specs.Outcome.{gives}
+use Rattle.content.specs.Halves.{remaining}
 use Rattle.report.specs.declared.Report.{Report}
 use Rattle.report.specs.Report.{singleReport}
 use Rattle.report.specs.Read.{readItems, outcomeOf}
 use Rattle.record.specs.Layout.{headIn, realIn, durationIn, diversionIn}
+use Rattle.record.specs.WellFormed.{contentBits}
 use Rattle.record.proofs.AsRecord.{as-it-is}
 use Rattle.record_report.specs.Reads.{withReal}
 use Rattle.record_report.proofs.Readings.{single-message, multi-message, held-bits}
@@ -16,11 +18,14 @@ use Rattle.record_report.proofs.read.message.Tie as tie
 cast-groups : tie.Need-cast-groups
 cast-groups c = omega (arith, c .shared-slice-known2 .given 1)
 
-sub-with-items : tie.Need-sub-with-items
-sub-with-items c = c .before .before .before .before .before .before .pre .1
+sub-size : tie.Need-sub-size
+sub-size c = c .before .before .before .before .before .pre .1
 
-mul-with-items : tie.Need-mul-with-items
-mul-with-items c = omega (arith, c .before .before .before .before .before .before .pre .2)
+mul-size : tie.Need-mul-size
+mul-size c = omega (arith, c .before .before .before .before .before .pre .2)
+
+with-items-requires : tie.Need-with-items-requires
+with-items-requires c κs = (omega arith, omega (arith, c .before .before .before .before .before .before .pre .2))
 
 returns : tie.Need-returns
 unfolding outcomeOf
@@ -35,6 +40,7 @@ returns c =
     ∙ sym (ap outcomeOf (single-message r (c .before .before .before .before .if1 .taken)))
 
 returns-2 : tie.Need-returns-2
+unfolding remaining
 returns-2 c =
     let at-head = c .before .before .before .before in
     let start = at-head .before .before .before in
@@ -44,7 +50,7 @@ returns-2 c =
     let real = c .before .before .before .real-location .ensures ∙ ap realIn same in
     let bits = held-bits r (c .before .content .result) (start .pre .2) (c .before .content .ensures) in
     c .with-items .ensures
-    ∙ (λ i. outcomeOf (readItems (head i) (real i) (bits i)))
+    ∙ (λ i. outcomeOf (readItems (head i) (real i) (contentBits r) (bits i)))
     ∙ sym (ap outcomeOf (multi-message r (c .before .before .if1 .left)))
 
 pub message-spec : {M : Type 1} → statement M
@@ -59,9 +65,9 @@ message-spec =
     (search needs)
     (search needs)
     (search needs)
+    sub-size
+    mul-size
     (search needs)
-    sub-with-items
-    mul-with-items
-    (search needs)
+    with-items-requires
     returns
     returns-2)

@@ -3,6 +3,7 @@ use mathlib.Core.Path.{sym, ap, _∙_}
 use mathlib.Core.Bool.{true, false}
 use borrow.Author.Tests.{not-true, not-false}
 use Rattle.report.specs.declared.Report.{Report}
+use Rattle.report.specs.declared.Refusal.the-variants.{Plain}
 use Rattle.report.specs.declared.MessageReading as answer
 use Rattle.report.specs.declared.Answer.the-variants as message
 use Rattle.report.specs.Read.{outcomeOf}
@@ -15,7 +16,7 @@ returns : tie.Need-returns
 unfolding outcomeOf
 returns c =
     let r = c .before .before .before .before .args .r .now in
-    ap {B = answer.MessageReading} (λ (x : Report). record { answer = message.Refused 10; report = x }) (c .new .ensures)
+    ap {B = answer.MessageReading} (λ (x : Report). record { answer = message.Refused (Plain 10); report = x }) (c .new .ensures)
     ∙ sym (ap outcomeOf (message-by r false (sym (c .before .before .has-groups .ensures) ∙ not-true _ (c .before .if1 .taken))))
 
 message-requires : tie.Need-message-requires

@@ -5,11 +5,10 @@ use mathlib.Core.Bool.{Bool, true, false}
 use mathlib.Core.List.{List}
 use borrow.Author.Tests.{not-true, not-false}
 use Rattle.bits.specs.Outcome.{given}
-use Rattle.bits.proofs.Outcomes.{mapped-given}
 use Rattle.content.specs.Content.{content}
-use Rattle.report.specs.Report.{multiReport}
-use Rattle.report.specs.Read.{readItems}
+use Rattle.report.proofs.Wholes.{items-given}
 use Rattle.record.specs.Layout.{headIn, realIn}
+use Rattle.record.specs.WellFormed.{contentBits}
 use Rattle.record_report.proofs.Readings.{has-known, message-by, single-message, multi-message, held-bits}
 use borrow.Author.Needs.{needs}
 use Rattle.record_report.proofs.read.reads.Statement.{statement}
@@ -39,14 +38,13 @@ mul-reads : tie.Need-mul-reads
 mul-reads c = let known = has-known (c .before .before .before .before .before .before .args .r .now) (sym (c .before .before .before .before .has-groups .ensures) ∙ not-false _ (c .before .before .before .if1 .left)) in omega arith
 
 returns-3 : tie.Need-returns-3
-unfolding readItems
 returns-3 c =
     let r = c .before .before .before .before .before .before .before .args .r .now in
     let has = sym (c .before .before .before .before .before .has-groups .ensures) ∙ not-false _ (c .before .before .before .before .if1 .left) in
     let bits = held-bits r (c .before .content .result) (has-known r has .2) (c .before .content .ensures) in
     c .reads .ensures
     ∙ ap (λ (l : List Bool). given (content l)) bits
-    ∙ sym (ap given (message-by r true has ∙ multi-message r (c .before .before .if2 .left)) ∙ mapped-given (multiReport (headIn r) (realIn r)) (content _))
+    ∙ sym (ap given (message-by r true has ∙ multi-message r (c .before .before .if2 .left)) ∙ items-given (headIn r) (realIn r) (contentBits r) _)
 
 pub reads-spec : {M : Type 1} → statement M
 reads-spec = tie.close (tie.spec (search needs) returns read-groups cast-groups returns-2 content-requires sub-reads mul-reads (search needs) returns-3)

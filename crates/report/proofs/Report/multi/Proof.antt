@@ -6,6 +6,7 @@ use borrow.Author.Tests.{not-true, not-false}
 use lib.ListN.{take, drop}
 use Rattle.bits.specs.Bits.{val}
 use Rattle.content.specs.Halves.{bitsOf, remaining}
+use Rattle.content.proofs.Lengths.{contentLength-le}
 use Rattle.report.specs.declared.Form.the-variants.{Multi}
 use Rattle.report.specs.Read.{outcomeOf}
 use Rattle.report.proofs.Places.{place-small, real-lt}
@@ -42,6 +43,13 @@ cast-with-items c =
     let real = c .head .ensures ∙ ap (λ (n : ℕ). val (take n (take (a .size) (bitsOf (a .content))))) (c .before .before .items-at .ensures) in
     omega (arith, real, real-lt Multi (a .head) (take (a .size) (bitsOf (a .content))))
 
+with-items-requires : tie.Need-with-items-requires
+with-items-requires c κs =
+    let a = c .before .before .before .before .before .args in
+    let short = contentLength-le (a .size) (sym (c .before .before .before .before .is-length .ensures) ∙ not-false _ (c .before .before .before .if1 .left)) in
+    let t = c .before .tail .ensures .1 in
+    (omega arith, omega arith)
+
 returns-2 : tie.Need-returns-2
 unfolding remaining
 returns-2 c =
@@ -66,5 +74,5 @@ multi-spec =
     tail-requires
     head-requires
     cast-with-items
-    (search needs)
+    with-items-requires
     returns-2)

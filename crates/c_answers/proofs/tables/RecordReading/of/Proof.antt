@@ -1,15 +1,12 @@
-use mathlib.Core.Path.{ap}
-use Rattle.c_answers.specs.Tables.{readingWith}
+-- Each field is told by its call.
 use borrow.Author.Needs.{needs}
+use Rattle.c_answers.specs.Tables.{readingWith}
 use Rattle.c_answers.proofs.tables.RecordReading.of.Statement.{statement}
 use Rattle.c_answers.proofs.tables.RecordReading.of.Tie as tie
 
-pub of-spec : {M : Type 1} → statement M
+returns : tie.Need-returns
 unfolding readingWith
-of-spec =
-    tie.close
-    (tie.spec
-    (search needs) (search needs) (search needs) (search needs)
-    (λ c. let s = c .before .before .before .before .before .before .args .reading in cc (ap (readingWith (c .before .before .of .result) (s .service) (s .expiry .0)) (c .enum-told .given .1)))
-    (λ c. let s = c .before .before .before .before .before .before .args .reading in cc (ap (readingWith (c .before .before .of .result) (s .service) (s .expiry .0)) (c .enum-told2 .given .1)))
-    (λ c. let s = c .before .before .before .before .before .before .before .args .reading in cc (ap (readingWith (c .before .before .before .of .result) (s .service) (s .expiry .0)) (c .before .answer .given .1))))
+returns c = rw (c .before .before .before .of .ensures, c .before .before .used-in .ensures, c .before .refusal-in .ensures, c .broken-in .ensures)
+
+pub of-spec : {M : Type 1} → statement M
+of-spec = tie.close (tie.spec (search needs) (search needs) (search needs) (search needs) returns)

@@ -10,7 +10,7 @@ use Rattle.content.proofs.read.Reading.refused.Tie as tie
 
 returns : tie.Need-returns
 unfolding readingOf
-returns c = ap (λ (s : Items). let r : Reading = record { answer = readAnswer.Refused (c .before .args .n); items = s } in r) (c .new .ensures)
+returns c = ap (λ (s : Items). let r : Reading = record { answer = readAnswer.Refused (c .before .args .unread); items = s } in r) (c .new .ensures)
 
 pub refused-spec : {M : Type 1} → statement M
 refused-spec = tie.close (tie.spec (search needs) returns)
