@@ -16,7 +16,6 @@ use crate::Reading;
 use bits::bytes::load;
 use clock::Utc;
 use content::content::Content;
-use content::rest::Rest;
 use record::Record;
 use record::Service;
 use record::fields::expiry;
@@ -128,12 +127,7 @@ fn message(r: &[u8]) -> MessageReading
             report: with_real(single, real),
         }
     } else {
-        let size = Content::GROUP * (groups - 1);
-        let rest = Rest {
-            bits: content(r),
-            left: size,
-        };
-        Report::with_items(head, real, size, rest)
+        Report::with_items(head, real, content(r), Content::GROUP * (groups - 1))
     }
 }
 

@@ -19,10 +19,11 @@ use Rattle.content.specs.declared.content.Content.{Content}
 use Rattle.content.specs.Widths.{widths, width, sublabelled}
 use Rattle.content.specs.Items.{Reading}
 use Rattle.content.specs.Content.{content}
-use Rattle.content.specs.Packing.{itemFits, allFit}
+use Rattle.content.specs.Packing.{itemFits, allFit, longest}
 use Rattle.content.specs.Halves.{bitsOf}
 use Rattle.content.specs.Stored.{limit, filled, listed}
 use Rattle.content.specs.Answers.{readingOf}
+use Rattle.content.proofs.Halves.{length-bitsOf}
 use Rattle.content.proofs.Broken.{content-unfit, breaks}
 use Rattle.content.proofs.AtMost28.{at-most-28}
 use Rattle.content.proofs.ReadIsWritten.{content-short, content-holds, items-writable}
@@ -62,12 +63,12 @@ read-refused l r u e a = by-reading (content l) refl
         h ∙ ap refused (cc)
 
 -- the bits left where an item begins are among those read
-pub left-within : (c : Content) (size n left : ℕ) → content (take size (bitsOf c)) ≡ refused (Unfit n left) → left ≤ size
+pub left-within : (c : Content) (size n left : ℕ) → content (take size (bitsOf c)) ≡ refused (Unfit n left) → (left ≤ size) × (size ≤ longest)
 left-within c size n left e =
     let l = take size (bitsOf c) in
     let u = content-unfit l n left e in
     let b = breaks l n left .0 (u .1) in
-    omega (arith, b .0, length-take size (bitsOf c))
+    (omega (arith, b .0, length-take size (bitsOf c)), omega (arith, u .0, length-take size (bitsOf c), length-bitsOf c))
 
 -- the items that are read are at most 28, and in range
 module _ (l : List Bool) (s : Items) (h : ReadItems l s) where

@@ -64,31 +64,42 @@ impl Report {
             left: size,
         };
         let rest = whole.tail(at);
-        Report::with_items(head, whole.head(at) as u16, size, rest)
+        read_items(head, whole.head(at) as u16, size, rest)
     }
 
-    // The report of a multi-group message, from its head, its real location and its items, which are the rest of `whole` bits of content:
-    // refusals 1, 7 and 8 as items are read, with the place in the whole content. An inner call: it asks for no more than a content has.
-    pub fn with_items(head: Head, real: u16, whole: usize, rest: Rest) -> MessageReading
-        requires { ⌜ (rest .left ≤ whole) × (whole ≤ longest) ⌝ }
-        ensures { λ r. ⌜ r ≡ outcomeOf (readItems head real whole (remaining rest)) ⌝ }
+    // The report of a multi-group message, from its head, its real location and the first `size` bits, which hold its items alone: refusals
+    // 1, 7 and 8 as items are read, with the place in these bits.
+    pub fn with_items(head: Head, real: u16, content: Content, size: usize) -> MessageReading
+        ensures { λ r. ⌜ r ≡ outcomeOf (readItems head real size (take size (bitsOf content))) ⌝ }
     {
-        let reading = content::read::read(rest.bits, rest.left);
-        let answer = reading.answer;
-        let items = reading.items;
-        match answer {
-            ReadAnswer::Read => MessageReading {
-                answer: Answer::Read,
-                report: of_items(head, real, items),
-            },
-            ReadAnswer::Refused(unread) => match unread {
-                Unread::TooLong => refused(Refusal::Plain(1)),
-                Unread::Unfit { number, left } => refused(Refusal::Broken {
-                    number,
-                    place: (whole - left as usize) as u8,
-                }),
-            },
-        }
+        let rest = Rest {
+            bits: content,
+            left: size,
+        };
+        read_items(head, real, size, rest)
+    }
+}
+
+// The report of items that are the rest of a content of `whole` bits.
+fn read_items(head: Head, real: u16, whole: usize, rest: Rest) -> MessageReading
+    requires { ⌜ (rest .left ≤ longest → (rest .left ≤ whole) × (whole ≤ longest)) ⌝ }
+    ensures { λ r. ⌜ r ≡ outcomeOf (readItems head real whole (remaining rest)) ⌝ }
+{
+    let reading = content::read::read(rest.bits, rest.left);
+    let answer = reading.answer;
+    let items = reading.items;
+    match answer {
+        ReadAnswer::Read => MessageReading {
+            answer: Answer::Read,
+            report: of_items(head, real, items),
+        },
+        ReadAnswer::Refused(unread) => match unread {
+            Unread::TooLong => refused(Refusal::Plain(1)),
+            Unread::Unfit { number, left } => refused(Refusal::Broken {
+                number,
+                place: (whole - left as usize) as u8,
+            }),
+        },
     }
 }
 

@@ -1,7 +1,6 @@
 -- The single-group report, or the items of the content.
 use mathlib.Core.Path.{sym, ap, ap₂, _∙_}
 use Rattle.bits.specs.Outcome.{gives}
-use Rattle.content.specs.Halves.{remaining}
 use Rattle.report.specs.declared.Report.{Report}
 use Rattle.report.specs.Report.{singleReport}
 use Rattle.report.specs.Read.{readItems, outcomeOf}
@@ -18,14 +17,11 @@ use Rattle.record_report.proofs.read.message.Tie as tie
 cast-groups : tie.Need-cast-groups
 cast-groups c = omega (arith, c .shared-slice-known2 .given 1)
 
-sub-size : tie.Need-sub-size
-sub-size c = c .before .before .before .before .before .pre .1
+sub-with-items : tie.Need-sub-with-items
+sub-with-items c = c .before .before .before .before .before .before .pre .1
 
-mul-size : tie.Need-mul-size
-mul-size c = omega (arith, c .before .before .before .before .before .pre .2)
-
-with-items-requires : tie.Need-with-items-requires
-with-items-requires c κs = (omega arith, omega (arith, c .before .before .before .before .before .before .pre .2))
+mul-with-items : tie.Need-mul-with-items
+mul-with-items c = omega (arith, c .before .before .before .before .before .before .pre .2)
 
 returns : tie.Need-returns
 unfolding outcomeOf
@@ -40,7 +36,6 @@ returns c =
     ∙ sym (ap outcomeOf (single-message r (c .before .before .before .before .if1 .taken)))
 
 returns-2 : tie.Need-returns-2
-unfolding remaining
 returns-2 c =
     let at-head = c .before .before .before .before in
     let start = at-head .before .before .before in
@@ -65,9 +60,9 @@ message-spec =
     (search needs)
     (search needs)
     (search needs)
-    sub-size
-    mul-size
     (search needs)
-    with-items-requires
+    sub-with-items
+    mul-with-items
+    (search needs)
     returns
     returns-2)

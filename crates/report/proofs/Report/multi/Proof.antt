@@ -36,19 +36,19 @@ head-requires c κs =
     let at = c .before .items-at .ensures in
     (omega arith, omega arith)
 
-cast-with-items : tie.Need-cast-with-items
+cast-read-items : tie.Need-cast-read-items
 unfolding remaining
-cast-with-items c =
+cast-read-items c =
     let a = c .before .before .before .before .before .args in
     let real = c .head .ensures ∙ ap (λ (n : ℕ). val (take n (take (a .size) (bitsOf (a .content))))) (c .before .before .items-at .ensures) in
     omega (arith, real, real-lt Multi (a .head) (take (a .size) (bitsOf (a .content))))
 
-with-items-requires : tie.Need-with-items-requires
-with-items-requires c κs =
+read-items-requires : tie.Need-read-items-requires
+read-items-requires c κs =
     let a = c .before .before .before .before .before .args in
     let short = contentLength-le (a .size) (sym (c .before .before .before .before .is-length .ensures) ∙ not-false _ (c .before .before .before .if1 .left)) in
     let t = c .before .tail .ensures .1 in
-    (omega arith, omega arith)
+    λ h. (omega arith, omega arith)
 
 returns-2 : tie.Need-returns-2
 unfolding remaining
@@ -56,7 +56,7 @@ returns-2 c =
     let a = c .before .before .before .before .before .before .args in
     let at = c .before .before .before .items-at .ensures in
     let kept = take (a .size) (bitsOf (a .content)) in
-    c .with-items .ensures
+    c .read-items .ensures
     ∙ ap outcomeOf
     (kept-read (a .head) (a .content) (a .size) _ _
     (sym (c .before .before .before .before .before .is-length .ensures) ∙ not-false _ (c .before .before .before .before .if1 .left))
@@ -73,6 +73,6 @@ multi-spec =
     (search needs)
     tail-requires
     head-requires
-    cast-with-items
-    with-items-requires
+    cast-read-items
+    read-items-requires
     returns-2)
