@@ -2,13 +2,13 @@
 use Prim.Native.Nat.{ℕ, ◌+◌, ◌-◌, ◌*◌, ◌/◌, ◌%◌, ◌^◌, ◌<◌, ◌≤◌}
 use native.Mathlib.Nat.{mod-lt, add_assoc}
 use native.Mathlib.Omega.{arith}
-use mathlib.Core.Path.{◌≡◌, refl, sym, ap, ap₂, subst, ◌∙◌}
+use mathlib.Core.Path.{◌≡◌, sym, ap, ap₂, subst, ◌∙◌}
 use mathlib.Core.Bool.{Bool}
 use mathlib.Core.List.{List, ◌++◌, append_assoc}
 use lib.ListN.{length, take, drop}
 use lib.Pow.{pow_pos, pow-add, shr_lt, high, low}
 use lib.Arith.{digits_lt}
-use Rattle.bits.specs.Bits.{bits, val}
+use Rattle.bits.specs.Bits.{bits}
 use Rattle.bits.specs.Overlay.{overlay}
 use Rattle.bits.proofs.Value.{length-bits, bits-append, bits-mod, take-bits, drop_bits}
 

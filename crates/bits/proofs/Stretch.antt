@@ -2,11 +2,11 @@
 use Prim.Native.Nat.{ℕ, zero, suc, ◌+◌, ◌-◌, ◌≤◌}
 use native.Mathlib.Nat.{suc-add, zero-add, add-zero, add_assoc}
 use native.Mathlib.Omega.{arith}
-use mathlib.Core.Path.{◌≡◌, refl, sym, ap, ap₂, subst, ◌∙◌}
+use mathlib.Core.Path.{◌≡◌, sym, ap, ap₂, ◌∙◌}
 use mathlib.Core.Bool.{Bool}
 use mathlib.Core.List.{List, [], ◌∷◌, ◌++◌, append_assoc, append-nil}
 use lib.ListN.{length, take, drop, length-append, take-append-drop}
-use lib.Seq.{take_at, drop_at, take-take, drop-drop, drop-nil, take-nil, length-take-le, take-append-le, drop-append-le, take-append-add, drop-append-add}
+use lib.Seq.{take_at, drop_at, take-take, drop-drop, take-nil, length-take-le, take-append-le, drop-append-le, take-append-add, drop-append-add}
 use Rattle.bits.specs.Overlay.{stretch, overlay}
 
 pub drop-take : (a m : ℕ) (l : List Bool) → drop a (take (a + m) l) ≡ take m (drop a l)

@@ -1,6 +1,6 @@
 -- The laws of `bits` and `val`, each over the width.
 use Prim.Native.Nat.{ℕ, zero, suc, ◌+◌, ◌*◌, ◌/◌, ◌%◌, ◌^◌, ◌<◌, ◌≤◌}
-use native.Mathlib.Nat.{lt_of_lt_of_le, zero-mod, mod-lt, mod-eq_of_lt, mod-mod, mod-one, zero-mul, zero-add, add-zero, add-mul, mul_assoc, add_assoc, pow-succ', pow-suc, mul_comm}
+use native.Mathlib.Nat.{lt_of_lt_of_le, zero-mod, mod-lt, mod-eq_of_lt, mod-mod, mod-one, zero-mul, zero-add, add-mul, mul_assoc, add_assoc, pow-succ'}
 use native.Mathlib.Numerals.{one-add}
 use native.Mathlib.Omega.{arith}
 use mathlib.Core.Path.{◌≡◌, refl, sym, ap, ap₂, subst, ◌∙◌}
@@ -10,7 +10,7 @@ use lib.ListN.{length, take, drop, length-append, length-take}
 use lib.Seq.{take_at, drop_at}
 use lib.Pow.{pow_pos, pow-add, pow_mono, high, low, mod-pow-add}
 use lib.Arith.{digits_lt}
-use borrow.Author.Tests.{eq-eqb, ne_eqb}
+use borrow.Author.Tests.{ne_eqb}
 use lib.Dec.{eqb, lit<}
 use Rattle.bits.specs.Bits.{bit, num, bits, val, all_zero}
 use Rattle.bits.specs.Overlay.{stretch}

@@ -1,31 +1,17 @@
 -- The bytes from i on are the low bytes of v, and what is left of v is what lies above them.
-use Prim.Native.Nat.{ℕ, suc, ◌+◌, ◌-◌, ◌*◌, ◌/◌, ◌%◌, ◌^◌, ◌≤◌, ◌<◌}
+use Prim.Native.Nat.{ℕ, suc, ◌+◌, ◌-◌, ◌*◌, ◌/◌, ◌%◌, ◌≤◌, ◌<◌}
 use native.Mathlib.Nat.{div-one, add-zero}
 use native.Mathlib.Omega.{arith}
-use mathlib.Core.Path.{◌≡◌, refl, sym, ap, ap₂, subst, ◌∙◌}
-use mathlib.Core.List.{List, [], ◌++◌, append-nil}
+use mathlib.Core.Path.{◌≡◌, sym, ap, ap₂, ◌∙◌}
+use mathlib.Core.List.{List, ◌++◌, append-nil}
 use lib.ListN.{length, take, set, length-append}
 use lib.Seq.{take-length, length-take-le}
-use borrow.Author.Rules.{rules}
 use Rattle.bits.specs.Fields.{words}
 use Rattle.bits.specs.Bits.{bits}
 use Rattle.bits.proofs.Fields.{length-words}
 use Rattle.bits.proofs.Loading.{low_bytes, store-more, rest_more}
-use Rattle.bits.proofs.bytes.store.Statement.{statement}
-use Rattle.bits.proofs.bytes.store.Tie as tie
-
--- i bytes are left of s₀, and the others are the low bytes of v
-record Stored (s₀ : List ℕ) (v : ℕ) (s : List ℕ) (rest i : ℕ) : Type 0 where
-  done : ℕ
-  total : i + done ≡ length s₀
-  bytes : s ≡ take i s₀ ++ low_bytes done v
-  above : rest ≡ v / 2 ^ (done * 8)
-
-abbrev invariant-loop : tie.invariant-loop
-invariant-loop s₀ v rest₀ i₀ s rest i = Stored s₀ v s rest i
-
-abbrev decreases-loop : tie.decreases-loop
-decreases-loop s₀ v rest₀ i₀ s rest i = i
+use Rattle.bits.proofs.bytes.store.Goals as goal
+use Rattle.bits.proofs.bytes.store.Invariants.{Stored}
 
 start : (s₀ : List ℕ) (v : ℕ) → Stored s₀ v s₀ v (length s₀)
 unfolding words
@@ -62,32 +48,17 @@ end s₀ v s rest i g h =
     let d : h.done ≡ length s₀ = omega (arith, h.total) in
     h.bytes ∙ ap₂ (λ (n m : ℕ). take n s₀ ++ low_bytes m v) z d
 
-loop-holds : tie.Need-loop-init invariant-loop decreases-loop
-loop-holds c = start _ _
+pub loop-i-init : goal.loop-i-init
+loop-i-init c = start _ _
 
-slice-write-s : tie.Need-slice-write-s invariant-loop decreases-loop
-slice-write-s c = omega (arith, kept _ _ _ _ _ c.before.loop.invariant)
+pub bounds-s-i : goal.bounds-s-i
+bounds-s-i c = omega (arith, kept _ _ _ _ _ c.loop-i.invariant)
 
-loop-again : tie.Need-loop-preserved invariant-loop decreases-loop
-loop-again c = more _ _ _ _ _ c.loop-test.true c.before.loop.invariant
+pub loop-i-preserved : goal.loop-i-preserved
+loop-i-preserved c = more _ _ _ _ _ c.loop-i-test.true c.loop-i.invariant
 
-same_length : tie.Need-same-length invariant-loop decreases-loop
-same_length c = kept _ _ _ _ _ c.before.loop.invariant
+pub shape_of-s : goal.shape_of-s
+shape_of-s c = kept _ _ _ _ _ c.loop-i.invariant
 
-returns : tie.Need-returns invariant-loop decreases-loop
-returns c = end _ _ _ _ _ c.loop-test.false c.before.loop.invariant
-
-pub store_spec : {M : Type 1} → statement M
-store_spec =
-    tie.close
-    (tie.spec
-    invariant-loop
-    decreases-loop
-    loop-holds
-    (search rules)
-    (search rules)
-    slice-write-s
-    (λ c. omega arith)
-    loop-again
-    same_length
-    returns)
+pub returns : goal.returns
+returns c = end _ _ _ _ _ c.loop-i-test.false c.loop-i.invariant
