@@ -1,4 +1,6 @@
 // The assembler: 37-bit words in the order heard, one call each, and the reports of the messages that they make up.
+#![tactic(auto)]
+
 mod advancing;
 mod call;
 mod fits;
@@ -9,7 +11,7 @@ use report::{Refusal, Report};
 use word::Head;
 
 // What lasts from one call to the next.
-#[derive(Drop)]
+#[derive(Clone, Copy)]
 pub enum Assembler {
     Empty,
     // A message is open.
@@ -19,7 +21,7 @@ pub enum Assembler {
 // An open message: its first group's continuity index and head, the GSI of the last later group taken (0 while there is none), and how
 // many later groups were taken with their contents in order. Unused contents are zero; a fourth later group always completes.
 #[repr(C)]
-#[derive(Drop)]
+#[derive(Clone, Copy)]
 pub struct Partial {
     pub ci: u8,
     pub head: Head,
@@ -31,7 +33,7 @@ pub struct Partial {
 }
 
 // What a call answers.
-#[derive(Drop)]
+#[derive(Clone, Copy)]
 pub enum Answer {
     // Nothing yet.
     Nothing,
@@ -46,7 +48,7 @@ pub enum Answer {
 }
 
 // The next state and the answer, with the report beside it: blank where there is none.
-#[derive(Drop)]
+#[derive(Clone, Copy)]
 pub struct Step {
     pub next: Assembler,
     pub answer: Answer,
@@ -54,7 +56,7 @@ pub struct Step {
 }
 
 // The next state, and whether the word is taken.
-#[derive(Drop)]
+#[derive(Clone, Copy)]
 pub struct Advance {
     pub next: Assembler,
     pub taken: bool,

@@ -9,7 +9,7 @@ pub mod run;
 pub mod zero;
 
 // What a writer answers: how many cells of the lent buffer it filled, or the refusal's number.
-#[derive(Drop)]
+#[derive(Clone, Copy)]
 pub enum Writing {
     Written(usize),
     Refused(u8),

@@ -10,7 +10,7 @@ use rds::{Answer, Group, Step};
 
 // A group read.
 #[repr(C)]
-#[derive(Drop)]
+#[derive(Clone, Copy)]
 pub struct GroupReading {
     pub group: Group,
     pub refusal: u8,
@@ -41,7 +41,7 @@ pub fn write_refusal(writing: rds::Writing) -> u8
 
 // The run after a group, on a refusal too; whether the group gave a valid word (1, else 0), and the word.
 #[repr(C)]
-#[derive(Drop)]
+#[derive(Clone, Copy)]
 pub struct Received {
     pub run: PlainRun,
     pub word: u64,
@@ -78,7 +78,7 @@ impl Received {
 
 // A FIG read, and how many words it carries.
 #[repr(C)]
-#[derive(Drop)]
+#[derive(Clone, Copy)]
 pub struct FigReading {
     pub count: usize,
     pub fig: Fig,
@@ -106,7 +106,7 @@ impl FigReading {
 
 // How many words of a block were read; of a FIG 5/1 that was refused, the byte at which it begins and its refusal.
 #[repr(C)]
-#[derive(Drop)]
+#[derive(Clone, Copy)]
 pub struct FibReading {
     pub count: usize,
     pub begin: usize,
@@ -143,7 +143,7 @@ impl FibReading {
 
 // A data unit read, and how many words it carries.
 #[repr(C)]
-#[derive(Drop)]
+#[derive(Clone, Copy)]
 pub struct UnitReading {
     pub count: usize,
     pub unit: DataUnit,

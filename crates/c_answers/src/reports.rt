@@ -11,7 +11,7 @@ use report::Report;
 
 // How many words or bytes were written into the lent buffer.
 #[repr(C)]
-#[derive(Drop)]
+#[derive(Clone, Copy)]
 pub struct Written {
     pub count: usize,
     pub refusal: u8,
@@ -31,7 +31,7 @@ impl Written {
 // What a word gave: a kind, 0 nothing yet, 1 a report, 2 a tuning word, 3 an administration word, with the report or the word beside it, and the
 // assembler's next state, on a refusal too; and where content breaks.
 #[repr(C)]
-#[derive(Drop)]
+#[derive(Clone, Copy)]
 pub struct AssemblerAnswer {
     pub report: PlainReport,
     pub next: Partial,

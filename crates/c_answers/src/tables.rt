@@ -49,7 +49,7 @@ fn when_full(choice: u8) -> WhenFull
 // How many records expired and matched, whether the report was stored (1, else 0), its place, and whether the record that stood there was
 // dropped for it (1, else 0).
 #[repr(C)]
-#[derive(Drop)]
+#[derive(Clone, Copy)]
 pub struct TableAnswer {
     pub expired: usize,
     pub matched: usize,
@@ -106,7 +106,7 @@ impl TableAnswer {
 
 // How many records are used.
 #[repr(C)]
-#[derive(Drop)]
+#[derive(Clone, Copy)]
 pub struct Renewal {
     pub used: usize,
     pub refusal: u8,
@@ -128,7 +128,7 @@ impl Renewal {
 
 // A record's report, service and expiry; whether it is in use (1, else 0); and where its content breaks.
 #[repr(C)]
-#[derive(Drop)]
+#[derive(Clone, Copy)]
 pub struct RecordReading {
     pub report: PlainReport,
     pub service: Service,
@@ -189,7 +189,7 @@ fn broken_in(answer: Kept) -> u8
 
 // The minute at which a report ends.
 #[repr(C)]
-#[derive(Drop)]
+#[derive(Clone, Copy)]
 pub struct ExpiryAnswer {
     pub minute: u32,
     pub refusal: u8,

@@ -9,7 +9,7 @@ use word::{Composed, Word};
 
 // A word taken apart.
 #[repr(C)]
-#[derive(Drop)]
+#[derive(Clone, Copy)]
 pub struct WordParsed {
     pub fields: WordFields,
     pub refusal: u8,
@@ -42,7 +42,7 @@ fn parse_refusal(word: Word) -> u8
 
 // A word composed.
 #[repr(C)]
-#[derive(Drop)]
+#[derive(Clone, Copy)]
 pub struct WordComposed {
     pub word: u64,
     pub refusal: u8,
@@ -61,7 +61,7 @@ impl WordComposed {
 
 // A system word read.
 #[repr(C)]
-#[derive(Drop)]
+#[derive(Clone, Copy)]
 pub struct SystemReading {
     pub fields: SystemFields,
     pub refusal: u8,
@@ -86,7 +86,7 @@ impl SystemReading {
 
 // A system word written.
 #[repr(C)]
-#[derive(Drop)]
+#[derive(Clone, Copy)]
 pub struct SystemWritten {
     pub word: u16,
     pub refusal: u8,

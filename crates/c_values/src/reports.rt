@@ -8,7 +8,7 @@ use word::Head;
 
 // A report whose form is a number: 0 for a single-group and 1 for a multi-group one. Its `real` is the header's `real_location`.
 #[repr(C)]
-#[derive(Drop)]
+#[derive(Clone, Copy)]
 pub struct PlainReport {
     pub items: Items,
     pub head: Head,

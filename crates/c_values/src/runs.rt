@@ -6,7 +6,7 @@ use rds::{Group, Run};
 
 // How often the last word was heard running, 2 for twice or more, and the word; 0 and 0 before the first group.
 #[repr(C)]
-#[derive(Drop)]
+#[derive(Clone, Copy)]
 pub struct PlainRun {
     pub word: u64,
     pub count: u8,

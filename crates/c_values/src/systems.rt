@@ -6,7 +6,7 @@ use system::System;
 
 // The variant of a system word, 0 or 1, and its fields: 0 where the variant has no such field.
 #[repr(C)]
-#[derive(Drop)]
+#[derive(Clone, Copy)]
 pub struct SystemFields {
     pub variant: u8,
     pub ltn: u8,

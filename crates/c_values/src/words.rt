@@ -7,7 +7,7 @@ use word::{Head, Word};
 // The kind of a word, 0 single group, 1 first group, 2 later group, 3 tuning, 4 administration, 5 index 7, and its fields: 0 where the kind has
 // no such field.
 #[repr(C)]
-#[derive(Drop)]
+#[derive(Clone, Copy)]
 pub struct WordFields {
     pub word: u64,
     pub content: u32,

@@ -1,4 +1,6 @@
 // The words that a frame carries, by its kind.
+#![tactic(auto)]
+
 ghost use Rattle.std.specs.Prelude.{◌≡◌, ◌≤◌, length, drop};
 ghost use Rattle.bits.specs.Fields.{flat};
 ghost use Rattle.crc.specs.Block.{payload};
@@ -13,14 +15,14 @@ use fig::Fig;
 use rds::{Answer, Run};
 
 // What a frame carries: a number of words, in a buffer beside it, or a refusal.
-#[derive(Drop)]
+#[derive(Clone, Copy)]
 pub enum Carried {
     Words(usize),
     Refused(u8),
 }
 
 // What a frame carries, and the run after it.
-#[derive(Drop)]
+#[derive(Clone, Copy)]
 pub struct Reception {
     pub run: Run,
     pub carried: Carried,

@@ -1,4 +1,6 @@
 // What a call on the message table tests before it does anything.
+#![tactic(auto)]
+
 ghost use Rattle.std.specs.Prelude.{◌≡◌};
 ghost use Rattle.checks.specs.Checks.{minute_unfit, asked_fit, later_refusal, check_refusal};
 
@@ -10,7 +12,7 @@ use record::Service;
 use report::Report;
 
 // What arrives: a report of a service, at a minute of UTC.
-#[derive(Drop)]
+#[derive(Clone, Copy)]
 pub struct Arrival {
     pub report: Report,
     pub service: Service,

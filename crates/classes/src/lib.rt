@@ -1,4 +1,6 @@
 // The update classes of a report, by the catalogue.
+#![tactic(auto)]
+
 ghost use Rattle.std.specs.Prelude.{◌≡◌, List, ◌∷◌, ℕ, ◌<◌, min};
 ghost use Rattle.content.specs.declared.item.Item as declared;
 ghost use Rattle.content.specs.Stored.{limit, listed};

@@ -1,18 +1,20 @@
 // The two clocks of a service: minutes of UTC and minutes of its local time. Only `local` turns one into the other.
+#![tactic(auto)]
+
 ghost use Rattle.std.specs.Prelude.{◌≡◌};
 ghost use Rattle.clock.specs.Time.{local_of, to_midnight, shifted, offset_fits};
 ghost use Rattle.clock.specs.Expiry.{expiry_answer};
 
 // A minute of UTC, counted from a midnight.
-#[derive(Drop)]
+#[derive(Clone, Copy)]
 pub struct Utc(pub u32);
 
 // A minute of service local time, counted from a midnight that lies before every minute of UTC. Only `Utc::local` makes one.
-#[derive(Drop)]
+#[derive(Clone, Copy)]
 pub struct Local(u64);
 
 // The minute at which a message ends, or the refusal's number.
-#[derive(Drop)]
+#[derive(Clone, Copy)]
 pub enum Expiry {
     At(Utc),
     Refused(u8),

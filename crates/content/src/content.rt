@@ -5,7 +5,7 @@ ghost use Rattle.content.specs.Content.{content_length};
 ghost use Rattle.content.specs.Packing.{zeros, groups};
 ghost use Rattle.content.specs.Halves.{bits_of, content_of, starting_with};
 
-#[derive(Drop)]
+#[derive(Clone, Copy)]
 pub struct Content {
     pub high: u64,
     pub low: u64,

@@ -5,7 +5,7 @@ ghost use Rattle.content.specs.Packing.{item_fits, zero_item};
 use crate::width::width_of;
 
 #[repr(C)]
-#[derive(Drop)]
+#[derive(Clone, Copy)]
 pub struct Item {
     // As wide as the value: a place then has no padding, and items are copied whole.
     pub label: u16,

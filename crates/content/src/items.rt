@@ -7,7 +7,7 @@ use crate::item::Item;
 
 // The places stand first: a copy of them then goes piece by piece as they were written.
 #[repr(C)]
-#[derive(Drop)]
+#[derive(Clone, Copy)]
 pub struct Items {
     pub places: [Item; Items::LIMIT],
     pub count: usize,

@@ -10,14 +10,14 @@ use crate::items::Items;
 use crate::width::width_of;
 
 // How many bits were packed, or the refusal's number.
-#[derive(Drop)]
+#[derive(Clone, Copy)]
 pub enum PackAnswer {
     Packed(usize),
     Refused(u8),
 }
 
 // The answer, and the bits beside it: zero after the items, and on a refusal.
-#[derive(Drop)]
+#[derive(Clone, Copy)]
 pub struct Packed {
     pub answer: PackAnswer,
     pub content: Content,

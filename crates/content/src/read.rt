@@ -13,7 +13,7 @@ use crate::items::Items;
 use crate::rest::{Rest, Taken};
 
 // Why bits do not read as items.
-#[derive(Drop)]
+#[derive(Clone, Copy)]
 pub enum Unread {
     // They are more than the longest content has: refusal 1.
     TooLong,
@@ -22,14 +22,14 @@ pub enum Unread {
 }
 
 // Whether content was read.
-#[derive(Drop)]
+#[derive(Clone, Copy)]
 pub enum ReadAnswer {
     Read,
     Refused(Unread),
 }
 
 // The answer, and the items beside it: none on a refusal.
-#[derive(Drop)]
+#[derive(Clone, Copy)]
 pub struct Reading {
     pub answer: ReadAnswer,
     pub items: Items,

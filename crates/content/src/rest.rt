@@ -10,14 +10,14 @@ use crate::item::Item;
 use crate::width::width_of;
 
 // The first `left` of the bits.
-#[derive(Drop)]
+#[derive(Clone, Copy)]
 pub struct Rest {
     pub bits: Content,
     pub left: usize,
 }
 
 // An item and the bits after it; or the refusal's number, and how many bits are left where the item begins.
-#[derive(Drop)]
+#[derive(Clone, Copy)]
 pub enum Taken {
     Item(Item, Rest),
     Unfit { number: u8, left: u8 },

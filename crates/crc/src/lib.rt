@@ -1,4 +1,6 @@
 // The check word: a register of 16 stages, 0 to 15, which the bits enter one at a time; and blocks that end with it.
+#![tactic(auto)]
+
 ghost use Rattle.std.specs.Prelude.{◌≡◌};
 ghost use Rattle.bits.specs.Bits.{bits};
 ghost use Rattle.crc.specs.Register.{shifted, entered, check_word};

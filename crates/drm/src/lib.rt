@@ -1,4 +1,6 @@
 // The data unit, which carries the Traffic Message Channel of DRM, and reading it.
+#![tactic(auto)]
+
 ghost use Rattle.std.specs.Prelude.{◌≡◌};
 ghost use Rattle.drm.specs.Format.{empty_unit};
 
@@ -6,7 +8,7 @@ mod read;
 
 // A data unit without its user words. The fields after Short ID are those of the header, and 0 where TMCHI is 0.
 #[repr(C)]
-#[derive(Drop)]
+#[derive(Clone, Copy)]
 pub struct DataUnit {
     pub tmchi: u8,
     // The Short ID of the service.
@@ -23,7 +25,7 @@ pub struct DataUnit {
     pub third: u16,
 }
 
-#[derive(Drop)]
+#[derive(Clone, Copy)]
 pub enum Reading {
     // The unit, and how many user words it carries.
     Taken { unit: DataUnit, count: usize },

@@ -1,4 +1,6 @@
 // A data unit written into a lent buffer.
+#![tactic(auto)]
+
 ghost use Rattle.std.specs.Prelude.{◌≡◌, length};
 ghost use Rattle.drm_write.specs.Write.{write_unit, bytes_after};
 

@@ -1,4 +1,6 @@
 // The Fast Information Block of DAB, and reading the FIGs 5/1 that it carries.
+#![tactic(auto)]
+
 ghost use Rattle.std.specs.Prelude.{◌≡◌};
 ghost use Rattle.fib.specs.Format.{unread};
 
@@ -8,13 +10,13 @@ mod figs;
 mod read;
 
 // How far a block was read: how many words, and the byte at which the next FIG begins.
-#[derive(Drop)]
+#[derive(Clone, Copy)]
 pub struct Fib {
     pub count: usize,
     pub at: usize,
 }
 
-#[derive(Drop)]
+#[derive(Clone, Copy)]
 pub enum Reading {
     // Every FIG 5/1 was read, and how many words they carry.
     Taken(usize),

@@ -13,7 +13,7 @@ use crc::block::is_checked;
 use fig::Fig;
 
 // What one FIG gives: how many words, none if it is no FIG 5/1, or the refusal's number.
-#[derive(Drop)]
+#[derive(Clone, Copy)]
 pub(crate) enum Part {
     Words(usize),
     Refused(u8),

@@ -1,4 +1,6 @@
 // FIG 5/1, which carries the Traffic Message Channel of DAB, and reading it.
+#![tactic(auto)]
+
 ghost use Rattle.std.specs.Prelude.{◌≡◌};
 ghost use Rattle.fig.specs.Format.{empty_fig, word_width};
 
@@ -6,13 +8,13 @@ mod read;
 
 // What a FIG 5/1 says of its words: D1 their width, TCId their service.
 #[repr(C)]
-#[derive(Drop)]
+#[derive(Clone, Copy)]
 pub struct Fig {
     pub d1: u8,
     pub tcid: u8,
 }
 
-#[derive(Drop)]
+#[derive(Clone, Copy)]
 pub enum Reading {
     // The FIG, and how many words it carries.
     Taken { fig: Fig, count: usize },

@@ -1,11 +1,13 @@
 // The form of a frame: a length of 16 bits, low byte first, and as many bytes after it.
+#![tactic(auto)]
+
 ghost use Rattle.std.specs.Prelude.{◌≡◌};
 ghost use Rattle.framing.specs.Frame.{little as Frame·little, framed as Frame·framed, frame_of};
 
 pub mod input;
 
 // What the bytes at hand begin with.
-#[derive(Drop)]
+#[derive(Clone, Copy)]
 pub enum Frame {
     // There are none.
     End,

@@ -5,7 +5,7 @@ ghost use Rattle.lent.specs.Catalogue.{entry_at, class_of, kind_of, has_class, t
 use crate::Lent;
 
 // An entry of a catalogue.
-#[derive(Drop)]
+#[derive(Clone, Copy)]
 pub struct Entry(pub u16);
 
 impl Entry {

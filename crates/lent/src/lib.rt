@@ -1,4 +1,6 @@
 // What the calls on the message table are lent: a table, a catalogue and lives; whether each is well_formed.
+#![tactic(auto)]
+
 ghost use Rattle.std.specs.Prelude.{◌≡◌};
 ghost use Rattle.lent.specs.Lent.{lent_fit};
 
@@ -11,7 +13,7 @@ use crate::lives::lives_fit;
 use crate::table::table_fits;
 
 // The limits of what is lent.
-#[derive(Drop)]
+#[derive(Clone, Copy)]
 pub struct Lent;
 
 impl Lent {

@@ -1,4 +1,6 @@
 // Lists the traffic messages of a recording: frames of the house form from standard input, lines to standard output.
+#![tactic(auto)]
+
 ghost use Rattle.std.specs.Prelude.{◌≡◌, ◌≤◌, length};
 ghost use Rattle.lines.specs.Line.{room};
 
@@ -9,7 +11,7 @@ use recording::{Answer, Progress, list};
 use session::Session;
 
 // What goes on from turn to turn: the bytes from..end of the input buffer are still to be listed.
-#[derive(Drop)]
+#[derive(Clone, Copy)]
 struct State {
     session: Session,
     from: usize,

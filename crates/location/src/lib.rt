@@ -1,9 +1,11 @@
 // A location of a location table, and the foreign location table (FLT) code that stands for a table in a location's place.
+#![tactic(auto)]
+
 ghost use Rattle.std.specs.Prelude.{◌≡◌};
 ghost use Rattle.location.specs.Flt.{is_flt, foreign, flt_of};
 
 // The country and the number of the location table, and the location's code in it.
-#[derive(Drop)]
+#[derive(Clone, Copy)]
 pub struct Location {
     pub country: u8,
     pub ltn: u8,

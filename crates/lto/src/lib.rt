@@ -1,4 +1,6 @@
 // LTO, a signed number of half hours, from and to its field of six bits.
+#![tactic(auto)]
+
 ghost use Rattle.std.specs.Prelude.{◌≡◌, ◌%◌, pos, negsuc};
 ghost use Rattle.lto.specs.Offset.{lto_of, lto_field};
 

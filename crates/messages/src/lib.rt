@@ -1,4 +1,6 @@
 // Whether user words are whole messages.
+#![tactic(auto)]
+
 ghost use Rattle.std.specs.Prelude.{◌≡◌};
 ghost use Rattle.report.specs.Read.{read_report};
 ghost use Rattle.messages.specs.Messages.{is_empty, begins, whole};

@@ -1,10 +1,12 @@
 // The RDS type 8A group, read and written, and the repeat rule over the groups received.
+#![tactic(auto)]
+
 mod format;
 mod repeat;
 
 // What a type 8A group carries besides its type.
 #[repr(C)]
-#[derive(Drop)]
+#[derive(Clone, Copy)]
 pub struct Group {
     pub pi: u16,
     pub tp: u8,
@@ -12,20 +14,20 @@ pub struct Group {
     pub word: u64,
 }
 
-#[derive(Drop)]
+#[derive(Clone, Copy)]
 pub enum Reading {
     Taken(Group),
     Refused(u8),
 }
 
-#[derive(Drop)]
+#[derive(Clone, Copy)]
 pub enum Writing {
     Done,
     Refused(u8),
 }
 
 // The run of equal words among the 8A groups received last.
-#[derive(Drop)]
+#[derive(Clone, Copy)]
 pub enum Run {
     // No 8A group yet.
     Empty,
@@ -36,7 +38,7 @@ pub enum Run {
 }
 
 // What a group received says.
-#[derive(Drop)]
+#[derive(Clone, Copy)]
 pub enum Answer {
     Nothing,
     Valid(u64),
@@ -44,7 +46,7 @@ pub enum Answer {
 }
 
 // The run after a group, and what the group said.
-#[derive(Drop)]
+#[derive(Clone, Copy)]
 pub struct Step {
     pub run: Run,
     pub answer: Answer,

@@ -7,7 +7,7 @@ use crate::Record;
 use crate::fields::put_four;
 
 // Class c is bit c.
-#[derive(Drop)]
+#[derive(Clone, Copy)]
 pub struct Classes(pub u64);
 
 impl Classes {

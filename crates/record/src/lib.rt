@@ -1,4 +1,6 @@
 // One record of the message table: its layout, its test, and freeing it.
+#![tactic(auto)]
+
 ghost use Rattle.std.specs.Prelude.{◌≡◌};
 ghost use Rattle.record.specs.Services.{service_fits};
 
@@ -14,7 +16,7 @@ use location::Location;
 
 // A service: country, location table number and service identifier.
 #[repr(C)]
-#[derive(Drop)]
+#[derive(Clone, Copy)]
 pub struct Service {
     pub country: u8,
     pub ltn: u8,
@@ -38,7 +40,7 @@ impl Service {
 }
 
 // What a report is matched by: its service, location, direction and the update classes of its events.
-#[derive(Drop)]
+#[derive(Clone, Copy)]
 pub struct Key {
     pub service: Service,
     pub location: Location,
@@ -47,14 +49,14 @@ pub struct Key {
 }
 
 // How many records a call freed as expired and as matching.
-#[derive(Drop)]
+#[derive(Clone, Copy)]
 pub struct Freed {
     pub expired: usize,
     pub matched: usize,
 }
 
 // The layout of a record.
-#[derive(Drop)]
+#[derive(Clone, Copy)]
 pub struct Record;
 
 impl Record {

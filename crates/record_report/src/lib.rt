@@ -1,4 +1,6 @@
 // A record of the message table made from a report, and read back.
+#![tactic(auto)]
+
 pub mod make;
 pub mod read;
 
@@ -7,14 +9,14 @@ use record::Service;
 use report::{Refusal, Report};
 
 // What came of making a record.
-#[derive(Drop)]
+#[derive(Clone, Copy)]
 pub enum Making {
     Made,
     Refused(u8),
 }
 
 // Whether a record holds a report.
-#[derive(Drop)]
+#[derive(Clone, Copy)]
 pub enum Answer {
     Free,
     Read,
@@ -22,7 +24,7 @@ pub enum Answer {
 }
 
 // The answer, and beside it the report, its service and when it ends: blank where there is none.
-#[derive(Drop)]
+#[derive(Clone, Copy)]
 pub struct Reading {
     pub answer: Answer,
     pub report: Report,

@@ -1,4 +1,6 @@
 // A recording of the house form, listed: frames of any number, from bytes that come in pieces of any size.
+#![tactic(auto)]
+
 ghost use Rattle.std.specs.Prelude.{◌≡◌, cond, [], ◌+◌, ◌≤◌, length};
 ghost use Rattle.lines.specs.Text.{Put};
 ghost use Rattle.report.specs.declared.Refusal.TheVariants.{Plain};
@@ -15,7 +17,7 @@ use session::{Session, next};
 pub const ROOM: usize = Session::ROOM;
 
 // How far a call got: the session then, the bytes taken, the bytes of text, and whether the listing is at its end.
-#[derive(Drop)]
+#[derive(Clone, Copy)]
 pub struct Progress {
     pub session: Session,
     pub taken: usize,
@@ -23,7 +25,7 @@ pub struct Progress {
     pub ended: bool,
 }
 
-#[derive(Drop)]
+#[derive(Clone, Copy)]
 pub enum Answer {
     Listed(Progress),
     Refused(u8),

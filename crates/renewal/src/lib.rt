@@ -1,4 +1,6 @@
 // The sets of a table's records worked out anew, from a changed catalogue.
+#![tactic(auto)]
+
 ghost use Rattle.std.specs.Prelude.{◌≡◌, ◌%◌, length};
 ghost use Rattle.bits.specs.Bits.{num};
 ghost use Rattle.record.specs.Layout.{record_size};
@@ -16,7 +18,7 @@ use lent::table::table_fits;
 use record::Record;
 
 // How many records are used, or the refusal's number.
-#[derive(Drop)]
+#[derive(Clone, Copy)]
 pub enum Answer {
     Renewed(usize),
     Refused(u8),

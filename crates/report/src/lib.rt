@@ -1,4 +1,6 @@
 // The report of a message: read from its groups, tested as a writer does, and as the message table keeps it.
+#![tactic(auto)]
+
 mod fits;
 pub mod inter_road;
 mod read;
@@ -8,7 +10,7 @@ use content::items::Items;
 use word::Head;
 
 // A single-group or a multi-group message.
-#[derive(Drop)]
+#[derive(Clone, Copy)]
 pub enum Form {
     Single,
     Multi,
@@ -16,7 +18,7 @@ pub enum Form {
 
 // What a message says. Its items are by value, at most 28, and unused places are zero. The location of an INTER-ROAD message is a foreign
 // location table's code, and its real location stands beside it, which is 0 in every other message.
-#[derive(Drop)]
+#[derive(Clone, Copy)]
 pub struct Report {
     pub items: Items,
     pub head: Head,
@@ -27,7 +29,7 @@ pub struct Report {
 }
 
 // Why there is no report.
-#[derive(Drop)]
+#[derive(Clone, Copy)]
 pub enum Refusal {
     // A number alone.
     Plain(u8),
@@ -36,21 +38,21 @@ pub enum Refusal {
 }
 
 // Whether there is a report.
-#[derive(Drop)]
+#[derive(Clone, Copy)]
 pub enum Answer {
     Read,
     Refused(Refusal),
 }
 
 // The answer, and the report beside it: blank on a refusal.
-#[derive(Drop)]
+#[derive(Clone, Copy)]
 pub struct MessageReading {
     pub answer: Answer,
     pub report: Report,
 }
 
 // The number of groups that the packed content takes, or the refusal's number.
-#[derive(Drop)]
+#[derive(Clone, Copy)]
 pub enum Packing {
     Groups(usize),
     Refused(u8),

@@ -1,4 +1,6 @@
 // The words of a report, written into a lent buffer.
+#![tactic(auto)]
+
 ghost use Rattle.std.specs.Prelude.{◌≡◌, true, ◌≤◌, ◌<◌, length};
 ghost use Rattle.content.specs.Halves.{bits_of, starting_with};
 ghost use Rattle.content.specs.Packing.{group_bits};

@@ -1,4 +1,6 @@
 // A session of the listing: what is kept between two frames, and one word and one frame to their lines.
+#![tactic(auto)]
+
 ghost use Rattle.std.specs.Prelude.{◌≡◌, ◌+◌, ◌*◌, ◌≤◌, length};
 ghost use Rattle.lines.specs.Text.{Put};
 ghost use Rattle.lines.specs.Line.{room};
@@ -13,7 +15,7 @@ use rds::Run;
 use report::{Refusal, Report};
 
 // What is kept between two frames.
-#[derive(Drop)]
+#[derive(Clone, Copy)]
 pub struct Session {
     // One assembler serves all kinds.
     pub assembler: Assembler,
@@ -25,7 +27,7 @@ pub struct Session {
 }
 
 // The session after some text was put, and the index after that text.
-#[derive(Drop)]
+#[derive(Clone, Copy)]
 pub struct Told {
     pub session: Session,
     pub at: usize,

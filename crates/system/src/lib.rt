@@ -1,4 +1,6 @@
 // System words of 16 bits, variants 0 and 1: read and written.
+#![tactic(auto)]
+
 ghost use Rattle.std.specs.Prelude.{◌≡◌, true};
 ghost use Rattle.bits.specs.Bits.{val};
 ghost use Rattle.bits.specs.Fields.{pack, fits};
@@ -7,7 +9,7 @@ ghost use Rattle.system.specs.Read.{system_of};
 ghost use Rattle.system.specs.Write.{written, table_values, service_values};
 
 // What a system word says of the service.
-#[derive(Drop)]
+#[derive(Clone, Copy)]
 pub enum System {
     // Variant 0: location table number, alternative frequency indicator, mode, geographical scopes.
     Table {
@@ -29,13 +31,13 @@ pub enum System {
     },
 }
 
-#[derive(Drop)]
+#[derive(Clone, Copy)]
 pub enum Reading {
     Taken(System),
     Refused(u8),
 }
 
-#[derive(Drop)]
+#[derive(Clone, Copy)]
 pub enum Writing {
     Word(u16),
     Refused(u8),

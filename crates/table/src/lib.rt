@@ -1,4 +1,6 @@
 // The message table: lent bytes, one record after the other. Reports are taken, records expire and are read.
+#![tactic(auto)]
+
 ghost use Rattle.std.specs.Prelude.{◌≡◌};
 ghost use Rattle.table.specs.declared.Answer.TheVariants.{Refused};
 
@@ -13,7 +15,7 @@ use clock::Utc;
 
 // What a take does where there is no room: it drops the record that ends soonest, which is the default, or keeps all and refuses the
 // report (14).
-#[derive(Drop)]
+#[derive(Clone, Copy)]
 pub enum WhenFull {
     Drop,
     Keep,
@@ -21,7 +23,7 @@ pub enum WhenFull {
 
 // How many records a call freed as expired and as matching, and where it stored the report; or where it dropped a record, none having
 // expired or matched, and stored the report; or the refusal's number.
-#[derive(Drop)]
+#[derive(Clone, Copy)]
 pub enum Answer {
     Freed {
         expired: usize,
@@ -39,14 +41,14 @@ pub enum Answer {
 }
 
 // The last accepted minute, and the answer.
-#[derive(Drop)]
+#[derive(Clone, Copy)]
 pub struct Step {
     pub last: Utc,
     pub answer: Answer,
 }
 
 // The calls on a table.
-#[derive(Drop)]
+#[derive(Clone, Copy)]
 pub struct Table;
 
 // A refusal: the last accepted minute stays.

@@ -1,10 +1,12 @@
 // The 37-bit word of ALERT-C, X (5 bits), Y (16) and Z (16): what it stands for and its fields, both ways.
+#![tactic(auto)]
+
 pub mod compose;
 mod parse;
 
 // What a single-group message and a first group share: Y14 to Y0 and Z.
 #[repr(C)]
-#[derive(Drop)]
+#[derive(Clone, Copy)]
 pub struct Head {
     pub direction: u8,
     pub extent: u8,
@@ -13,7 +15,7 @@ pub struct Head {
 }
 
 // What a number stands for as a word.
-#[derive(Drop)]
+#[derive(Clone, Copy)]
 pub enum Word {
     // T = 0, F = 1: a whole message.
     Single {
@@ -44,7 +46,7 @@ pub enum Word {
 }
 
 // A composed word, or the refusal of fields that no word has.
-#[derive(Drop)]
+#[derive(Clone, Copy)]
 pub enum Composed {
     Number(u64),
     Refused(u8),
