@@ -6,7 +6,6 @@ use mathlib.Core.Bool.{false}
 use mathlib.Core.List.{◌++◌}
 use lib.ListN.{length, take, drop, length-append, length-drop, length-replicate}
 use lib.Seq.{length-take-le, take-take, take-append-le}
-use Rattle.bits.specs.Bits.{bits}
 use Rattle.bits.proofs.Stretch.{drop-take}
 use Rattle.content.specs.Packing.{zeros}
 use Rattle.content.specs.Halves.{bits_of, content_of, remaining}

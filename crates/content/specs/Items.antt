@@ -1,5 +1,5 @@
 -- The items that bits hold, however many: ISO 14819-1 clause 5.5.1; document 01, "Multi-group content".
-use Rattle.std.specs.Prelude.{ℕ, zero, suc, Bool, true, false, ◌||◌, List, [], ◌∷◌, length, take, drop, eqb, ltb}
+use Rattle.std.specs.Prelude.{ℕ, zero, suc, Bool, true, false, List, [], ◌∷◌, length, take, drop, eqb, ltb}
 use Rattle.bits.specs.Bits.{val, all_zero}
 use Rattle.bits.specs.Outcome.{Outcome, gives, refused, mapped}
 use Rattle.content.specs.Widths.{label_width, width, sublabelled}
