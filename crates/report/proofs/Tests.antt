@@ -18,10 +18,10 @@ use Rattle.content.proofs.WrittenIsRead.{packable_short, writable-packable}
 use Rattle.report.specs.Fits.{items_fit}
 use Rattle.report.proofs.Multi.{fit-writable, fit-packed}
 
-packed_if : (b : Bool) (its : List Item) (n : ℕ) → (packed_if b its).answer ≡ answer.Packed n → b ≡ true
+packed_if_lem : (b : Bool) (its : List Item) (n : ℕ) → (packed_if b its).answer ≡ answer.Packed n → b ≡ true
 unfolding packed_if unpacked
-packed_if true its n e = refl
-packed_if false its n e = let z : ◌≡◌ {A = ℕ} 0 1 = cc in absurd (omega arith)
+packed_if_lem true its n e = refl
+packed_if_lem false its n e = let z : ◌≡◌ {A = ℕ} 0 1 = cc in absurd (omega arith)
 
 refused_if : (b : Bool) (its : List Item) (n : ℕ) → (packed_if b its).answer ≡ answer.Refused n → b ≡ false
 unfolding packed_if packed
@@ -31,7 +31,7 @@ refused_if false its n e = refl
 module _ (s : Items) (r : Packed) (n : ℕ) (e : r ≡ packed_of s) where
   pub packed-fits : r.answer ≡ answer.Packed n → items_fit s ≡ true
   unfolding items_fit packed_of
-  packed-fits a = packed_if (well_placed s && writable (listed s)) (listed s) n (sym (ap (λ (x : Packed). x.answer) e) ∙ a)
+  packed-fits a = packed_if_lem (well_placed s && writable (listed s)) (listed s) n (sym (ap (λ (x : Packed). x.answer) e) ∙ a)
 
   -- and it tells the bits of the items
   pub packed-bits : r.answer ≡ answer.Packed n → n ≡ length (packing (listed s))
