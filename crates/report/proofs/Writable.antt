@@ -8,7 +8,7 @@ use mathlib.Core.List.{List, ◌++◌}
 use lib.ListN.{length, take, drop, length-append, length-drop, take-append-drop}
 use lib.Seq.{length-take-le}
 use borrow.Author.Tests.{eq-eqb, le-leb, lt-ltb}
-use Rattle.bits.specs.Bits.{bits, val}
+use Rattle.bits.specs.Bits.{val}
 use Rattle.bits.specs.Fields.{fits}
 use Rattle.bits.specs.Outcome.{gives, refused}
 use Rattle.bits.proofs.Choice.{either}

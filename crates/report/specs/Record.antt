@@ -1,6 +1,6 @@
 -- A report's content as the message table keeps it: 14 bytes, first bit highest, zero filled, and the number of groups (document 01,
 -- "The message table").
-use Rattle.std.specs.Prelude.{ℕ, ◌+◌, ◌-◌, cond, ◌&&◌, List, ◌++◌, length, drop, leb}
+use Rattle.std.specs.Prelude.{ℕ, ◌-◌, cond, ◌&&◌, List, ◌++◌, length, drop, leb}
 use Rattle.bits.specs.Fields.{words}
 use Rattle.content.specs.declared.item.Item.{Item}
 use Rattle.content.specs.Packing.{zeros, packing, groups, longest}
