@@ -1,4 +1,4 @@
--- The calls of a fresh assembler on the words of one well_formed message.
+-- The calls of a fresh assembler on the words of one well-formed message.
 use Prim.Native.Nat.{ℕ, suc, zero, ◌-◌}
 use native.Mathlib.Omega.{arith}
 use mathlib.Core.Path.{◌≡◌, refl, sym, ap, ◌∙◌}
@@ -63,7 +63,7 @@ module _ (read : Reads) where
       (same-answers words (step_of read a n).next (next_fits read a n e)
       ∙ ap (λ (s : State). map answer_of (list.answers (abstract_call read) s words)) (next_state read a n e))
 
-  -- a message is well_formed for the calls too: it reads as its report
+  -- a message is well-formed for the calls too: it reads as its report
   as_read : {gs : List Group} {r : Report} → WellFormed single_report (numbered read) gs r → WellFormed single_reads (multi_reads read) gs (gives r)
   as_read (alone k) = alone k
   as_read {r = r} (joined {c = c} {head = head} {cs = cs} k k2 falling reads) = joined k k2 falling (ap gives (refused_as_gives number_of (read head (c ∷ cs)) r reads))

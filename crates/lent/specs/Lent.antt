@@ -4,6 +4,6 @@ use Rattle.lent.specs.Table.{table_fits}
 use Rattle.lent.specs.Catalogue.{catalogue_fits}
 use Rattle.lent.specs.Lives.{lives_fit}
 
--- the table, the catalogue and the lives are well_formed
+-- the table, the catalogue and the lives are well-formed
 unfoldable pub lent_fit : (t catalogue lives : List ℕ) → Bool
 lent_fit t catalogue lives = table_fits t && (catalogue_fits catalogue && lives_fit lives)

@@ -8,6 +8,6 @@ use Rattle.lent.specs.Records.{records, all_of}
 unfoldable pub sized : List ℕ → Bool
 sized t = leb record_size (length t) && (leb (length t) (1024 * record_size) && eqb (length t % record_size) 0)
 
--- that many records, each well_formed
+-- that many records, each well-formed
 unfoldable pub table_fits : List ℕ → Bool
 table_fits t = sized t && all_of well_formed (records t)

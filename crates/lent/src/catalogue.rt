@@ -1,4 +1,4 @@
-// Whether a catalogue is well_formed, and what an entry of it says.
+// Whether a catalogue is well-formed, and what an entry of it says.
 ghost use Rattle.std.specs.Prelude.{◌≡◌};
 ghost use Rattle.lent.specs.Catalogue.{entry_at, class_of, kind_of, has_class, type_of, entry_fits, catalogue_fits};
 

@@ -1,4 +1,4 @@
-// What the calls on the message table are lent: a table, a catalogue and lives; whether each is well_formed.
+// What the calls on the message table are lent: a table, a catalogue and lives; whether each is well-formed.
 #![tactic(auto)]
 
 ghost use Rattle.std.specs.Prelude.{◌≡◌};
@@ -29,7 +29,7 @@ impl Lent {
     pub const DURATIONS: usize = 8;
 }
 
-// Whether the table, the catalogue and the lives are well_formed.
+// Whether the table, the catalogue and the lives are well-formed.
 pub fn lent_fit(t: &[u8], catalogue: &[u16], lives: &[u16]) -> bool
     ensures { result ≡ lent_fit t.now catalogue.now lives.now }
 {

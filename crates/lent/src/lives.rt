@@ -1,4 +1,4 @@
-// Whether lives are well_formed.
+// Whether lives are well-formed.
 ghost use Rattle.std.specs.Prelude.{◌≡◌};
 ghost use Rattle.lent.specs.Lives.{lives_fit};
 

@@ -1,4 +1,4 @@
-// Whether a table is well_formed.
+// Whether a table is well-formed.
 ghost use Rattle.std.specs.Prelude.{◌≡◌, ◌%◌, length};
 ghost use Rattle.record.specs.Layout.{record_size};
 ghost use Rattle.record.specs.WellFormed.{well_formed};
@@ -9,7 +9,7 @@ use crate::Lent;
 use record::Record;
 use record::test::{bytes_fit, zero_bits};
 
-// Whether the bytes are 1 to 1,024 well_formed records.
+// Whether the bytes are 1 to 1,024 well-formed records.
 pub fn table_fits(t: &[u8]) -> bool
     ensures { result ≡ table_fits t.now }
 {
@@ -23,7 +23,7 @@ pub fn table_fits(t: &[u8]) -> bool
     }
 }
 
-// Whether every record is well_formed: all its bytes have zeros where they must, eight bytes at a time.
+// Whether every record is well-formed: all its bytes have zeros where they must, eight bytes at a time.
 fn records_fit(t: &[u8]) -> bool
     requires { length t.now % record_size ≡ 0 }
     ensures { result ≡ all_of well_formed (records t.now) }

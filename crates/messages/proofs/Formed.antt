@@ -1,4 +1,4 @@
--- The words of one well_formed message are whole messages.
+-- The words of one well-formed message are whole messages.
 use Prim.Native.Nat.{ℕ, zero, suc, ◌-◌}
 use native.Mathlib.Omega.{arith}
 use mathlib.Core.Path.{◌≡◌, refl, sym, ap, subst, ◌∙◌}

@@ -1,4 +1,4 @@
--- A free record is well_formed.
+-- A free record is well-formed.
 use mathlib.Core.Path.{◌≡◌, refl}
 use mathlib.Core.Bool.{true}
 use Rattle.record.specs.Layout.{free_record}

@@ -42,7 +42,7 @@ four_bytes n = n % 256 ∷ n / 0x100 % 256 ∷ n / 0x1_0000 % 256 ∷ n / 0x100_
 abbrev pub eight_bytes : ℕ → List ℕ
 eight_bytes n = four_bytes (n % 0x1_0000_0000) ++ four_bytes (n / 0x1_0000_0000)
 
--- of a well_formed record, whether it is free
+-- of a well-formed record, whether it is free
 abbrev pub is_free : List ℕ → Bool
 is_free r = eqb (byte_at r 0) 0
 

@@ -1,4 +1,4 @@
--- The well_formed records (documents 01, "The message table", and 02, R-1 and R-5).
+-- The well-formed records (documents 01, "The message table", and 02, R-1 and R-5).
 use Rattle.std.specs.Prelude.{ℕ, ◌-◌, ◌*◌, ◌^◌, Bool, true, cond, not, ◌&&◌, ◌||◌, List, [], ◌∷◌, ◌++◌, drop, replicate, eqb, leb, ltb}
 use Rattle.bits.specs.Bits.{all_zero}
 use Rattle.bits.specs.Fields.{flat}

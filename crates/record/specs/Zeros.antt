@@ -1,4 +1,4 @@
--- The bits that are zero in a well_formed record (documents 01, "The message table", and 02, R-5): those above the bits of each byte, and the content bits
+-- The bits that are zero in a well-formed record (documents 01, "The message table", and 02, R-5): those above the bits of each byte, and the content bits
 -- after those of the groups.
 use Rattle.std.specs.Prelude.{ℕ, zero, suc, ◌+◌, ◌-◌, ◌*◌, ◌^◌, Bool, cond, not, ◌&&◌, List, [], ◌∷◌, ◌++◌, map, take, drop, replicate, eqb, leb}
 use Rattle.std.specs.Int.Bits.{bit_and}

@@ -67,7 +67,7 @@ module _ (r : List ℕ) where
   unfolding reading_in
   used_reading e = passed_over _ _ _ (ne_eqb (byte_at r 0) 0 e)
 
-  -- a well_formed record is read
+  -- a well-formed record is read
   pub fit_reading : length r ≡ record_size → well_formed r ≡ true → reading_of r ≡ reading_in r
   unfolding reading_of
   fit_reading e h = chosen _ _ _ (ap₂ (λ (a b : Bool). a && b) (eq-eqb (length r) record_size e) h)

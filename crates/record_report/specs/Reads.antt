@@ -42,6 +42,6 @@ answered (refused x) s expiry = nothing (Refused x)
 unfoldable pub reading_in : List ℕ → Reading
 reading_in r = cond (is_free r) (nothing Free) (answered (message_in r) (service_in r) (expiry_in r))
 
--- of any bytes: those that are not one well_formed record are refused (10)
+-- of any bytes: those that are not one well-formed record are refused (10)
 unfoldable pub reading_of : List ℕ → Reading
 reading_of r = cond (is_record r && well_formed r) (reading_in r) (nothing (Refused (Plain 10)))

@@ -24,7 +24,7 @@ const LOW: usize = Record::CONTENT + 8;
 
 const TO_THE_TOP: u64 = 0x1_0000;
 
-// The report of a record with its service and expiry, or that it is free. Bytes that are not one well_formed record are refused (10), then
+// The report of a record with its service and expiry, or that it is free. Bytes that are not one well-formed record are refused (10), then
 // content that does not read as items (7 or 8), with the place in the record's own content.
 pub fn read(r: &[u8]) -> Reading
     ensures { result ≡ reading_of r.now }

@@ -1,4 +1,4 @@
--- One record renewed: it is as well_formed as it was, says the same, and its set is current.
+-- One record renewed: it is as well-formed as it was, says the same, and its set is current.
 use Prim.Native.Nat.{ℕ, zero, suc, ◌+◌, ◌-◌, ◌*◌, ◌/◌, ◌%◌, ◌^◌, ◌<◌}
 use native.Mathlib.Omega.{arith}
 use mathlib.Core.Path.{◌≡◌, refl, sym, ap, ap₂, ◌∙◌}

@@ -81,7 +81,7 @@ module _ (t c : List ℕ) (fits : renew_fits t c ≡ true) where
   pub records-renewed : records (renew_table t c) ≡ map (renewed c) (records t)
   records-renewed = ap records (sym (accepted_renewal t c fits).1) ∙ records-over (renewed c) (renewed-keeps c) t whole
 
-  -- what a test says of records of their size that are well_formed and have classes, of those renewed
+  -- what a test says of records of their size that are well-formed and have classes, of those renewed
   each-renewed : (p : List ℕ → Bool) → ((r : List ℕ) → length r ≡ record_size → well_formed r ≡ true → classed c r ≡ true → p (renewed c r) ≡ true) → all_of p (records (renew_table t c)) ≡ true
   each-renewed p says =
       let tests = all_both is_record (λ r. well_formed r && classed c r) (records t) (records-sized t) (all_both well_formed (classed c) (records t) (table_records t (fits_table t c fits)) (fits-classed t c fits)) in
@@ -98,13 +98,13 @@ module _ (t c : List ℕ) (fits : renew_fits t c ≡ true) where
   pub renewal_classed : all_classed c (renew_table t c) ≡ true
   renewal_classed = each-renewed (classed c) (λ r long fit has. renewed-classed c r long has)
 
-  -- and the table is well_formed
+  -- and the table is well-formed
   pub renewal_fits : table_fits (renew_table t c) ≡ true
   renewal_fits =
       fits_again (renew_table t c) t (ap length (sym (accepted_renewal t c fits).1) ∙ length_over (renewed c) (renewed-keeps c) t whole)
       (each-renewed well_formed (λ r long fit has. renewed-fits c r long fit (fits_catalogue t c fits) has)) (fits_table t c fits)
 
--- a well_formed table whose sets are current is as it was after a renewal
+-- a well-formed table whose sets are current is as it was after a renewal
 same-records : (c : List ℕ) (rs : List (List ℕ)) → all_of (λ r. is_record r && (well_formed r && current c r)) rs ≡ true → map (renewed c) rs ≡ rs
 unfolding all_of
 same-records c [] h = refl
@@ -182,7 +182,7 @@ module _ (c : List ℕ) where
     pub set_is : (i : ℕ) → is_free (record_no t i) ≡ false → set_in (record_no t i) ≡ set_of (classes_in c (record_no t i))
     set_is i used = current-set c (record_no t i) (each_one (current c) (records t) i (always t made).1 (free_current c free_record refl)) used
 
-    -- renewing with the same catalogue changes nothing, and a well_formed table is not refused
+    -- renewing with the same catalogue changes nothing, and a well-formed table is not refused
     pub changes_nothing : renew_table t c ≡ t
     changes_nothing = renewal_same t c (always t made).1
 

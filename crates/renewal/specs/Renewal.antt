@@ -14,7 +14,7 @@ use Rattle.renewal.specs.Classes.{classes_in, all_classed}
 unfoldable pub renewed : (catalogue r : List ℕ) → List ℕ
 renewed catalogue r = cond (is_free r) r (with_set (set_of (classes_in catalogue r)) r)
 
--- what is not refused: a well_formed table and catalogue, and used records whose content reads as items and whose first event has a class
+-- what is not refused: a well-formed table and catalogue, and used records whose content reads as items and whose first event has a class
 unfoldable pub renew_fits : (t catalogue : List ℕ) → Bool
 renew_fits t catalogue = table_fits t && (catalogue_fits catalogue && all_classed catalogue t)
 

@@ -1,5 +1,5 @@
 -- What `write` leaves in a buffer reads back: a fresh assembler gives the report that was written, once, at the last word, and is empty then
--- (`way_back`). For the words are those of a message that is well_formed in the sense of demand 3 (`well_formed`).
+-- (`way_back`). For the words are those of a message that is well-formed in the sense of demand 3 (`well_formed`).
 use Prim.Native.Nat.{ℕ, zero, suc, ◌-◌, ◌^◌, ◌≤◌, ◌<◌}
 use native.Mathlib.Omega.{arith}
 use mathlib.Core.Path.{◌≡◌, refl, sym, ap, subst, ◌∙◌}
@@ -94,7 +94,7 @@ module _ (ci : ℕ) (r : Report) (sized : length r.items.places ≡ limit) (ok :
       let long = length-words group_bits n (padded l) in
       multi_formed ci i r.head (contents_of l) r (first_fits ci r f i) (omega arith) (omega arith) (contents_lt n (padded l)) (contents_read r sized (real_fits ci r ok) f e)
 
-  -- the words are those of a well_formed message, whose report it is
+  -- the words are those of a well-formed message, whose report it is
   pub well_formed : WellFormed single_report (numbered read_report) (heard (words_of ci r)) r
   unfolding words_of words_by
   well_formed = by_form r.form refl

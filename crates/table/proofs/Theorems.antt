@@ -63,7 +63,7 @@ free_each p q t w free h = ap (all_of p) (records-over (freed_if q) (freed-keeps
 stored-each : (p : List ℕ → Bool) (t r : List ℕ) (i : ℕ) → length t % record_size ≡ 0 → i < length t / record_size → length r ≡ record_size → all_of p (records t) ≡ true → p r ≡ true → all_of p (records (stored t i r)) ≡ true
 stored-each p t r i w inside long h e = ap (all_of p) (records-stored t r i w inside long) ∙ all_set p (records t) i r h e
 
--- a table of the same length whose records are well_formed
+-- a table of the same length whose records are well-formed
 pub fits_again : (s t : List ℕ) → length s ≡ length t → all_of well_formed (records s) ≡ true → table_fits t ≡ true → table_fits s ≡ true
 unfolding table_fits sized
 fits_again s t e each h =
@@ -84,7 +84,7 @@ module _ (t c l : List ℕ) (last : ℕ) (a : Arrival) (lto : ℤ) (full : WhenF
   abbrev after : List ℕ
   after = take_table t c l last a lto full
 
-  -- a take keeps the length of the table, and a well_formed table well_formed
+  -- a take keeps the length of the table, and a well-formed table well-formed
   pub same_length : length after ≡ length t
   unfolding after_storing
   same_length =
@@ -187,7 +187,7 @@ module _ (t c l : List ℕ) (last : ℕ) (a : Arrival) (lto : ℤ) (full : WhenF
           ∙ ap reading_in stored_there
           ∙ reading_back a.report a.service (set_for c a.report) (expiry_for c l a lto) sized (asked_report t c l last a lto (ok t c l last a lto full fine).asked)
 
--- Expiry alone keeps a well_formed table well_formed, and every test that holds of its records and of a free one.
+-- Expiry alone keeps a well-formed table well-formed, and every test that holds of its records and of a free one.
 module _ (t : List ℕ) (last minute : ℕ) where
   expiry-keeps : (P : List ℕ → Type 0) → P t → (table_fits t ≡ true → P (free_where (expired minute) t)) → P (expire_table t last minute)
   unfolding expire_table expire_refusal

@@ -1,4 +1,4 @@
--- A well_formed message has at most five groups: GSI has two bits.
+-- A well-formed message has at most five groups: GSI has two bits.
 use Prim.Native.Nat.{ℕ, suc, ◌≤◌}
 use mathlib.Core.Path.{◌≡◌, refl, ap}
 use mathlib.Core.List.{List}

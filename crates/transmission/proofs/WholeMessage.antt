@@ -1,4 +1,4 @@
--- A well_formed message of which every group arrives: nothing yet at each word but the last, there its report, and then no message is open.
+-- A well-formed message of which every group arrives: nothing yet at each word but the last, there its report, and then no message is open.
 use Prim.Native.Nat.{ℕ, suc, ◌-◌}
 use native.Mathlib.Omega.{arith}
 use mathlib.Core.Path.{◌≡◌, ap, ◌∙◌}

@@ -16,7 +16,7 @@ All P [] = Unit {0}
 All P (a ∷ l) = P a × All P l
 
 module _ {R : Type 0} (single : ReadsSingle R) (read : ReadsMulti R) where
-  -- well_formed messages are sent, with at least `between` others between two multi-group messages of one continuity index; no unbroken loss
+  -- well-formed messages are sent, with at least `between` others between two multi-group messages of one continuity index; no unbroken loss
   -- of user groups holds `limit` messages; the user groups that are not lost are heard once and in order, with other words anywhere. Then the
   -- reports given on the words are those of the messages that arrived whole, in the order sent
   abbrev pub Claim : ℕ → ℕ → (List ℕ → List R) → Type 0

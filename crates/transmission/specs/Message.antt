@@ -38,7 +38,7 @@ pub data Falling (ci : ℕ) : ℕ → List ℕ → List Group → Type 0 where
       → kind_of g.word ≡ Later ci 0 gsi c → Falling ci gsi cs gs
       → Falling ci (suc gsi) (c ∷ cs) (g ∷ gs)
 
--- the groups of a well_formed message, and the report that the rules read from them: a single word; or a first group, a later
+-- the groups of a well-formed message, and the report that the rules read from them: a single word; or a first group, a later
 -- one with the mark, and the others, whose content is not refused. GSI has two bits, so that the later groups are one to four
 -- (`at_most_five` in proofs/Formed.antt)
 pub data WellFormed {R : Type 0} (single : ReadsSingle R) (read : ReadsMulti R) : List Group → R → Type 0 where

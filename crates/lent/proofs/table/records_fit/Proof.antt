@@ -1,4 +1,4 @@
--- The records passed are well_formed, and of this one the bytes passed have zeros where their row says.
+-- The records passed are well-formed, and of this one the bytes passed have zeros where their row says.
 use Prim.Native.Nat.{ℕ, ◌+◌, ◌-◌, ◌*◌, ◌/◌, ◌≤◌, ◌<◌}
 use native.Mathlib.Omega.{arith}
 use mathlib.Core.Path.{◌≡◌, sym, ap, ap₂, ◌∙◌}

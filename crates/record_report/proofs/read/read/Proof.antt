@@ -18,7 +18,7 @@ use borrow.Author.Rules.{rules}
 use Rattle.record_report.proofs.read.read.Statement.{statement}
 use Rattle.record_report.proofs.read.read.Tie as tie
 
--- one well_formed record
+-- one well-formed record
 module _ (r : List ℕ) (h : is_record r && well_formed r ≡ true) where
   sized : length r ≡ record_size
   sized = eqb-true (length r) record_size (and_left (is_record r) (well_formed r) h)
