@@ -1,16 +1,14 @@
 -- Words fed to an assembler one by one: what the code finds out of each.
 use Prim.Native.Nat.{ℕ, suc, ◌<◌}
 use mathlib.Core.Path.{◌≡◌, refl, sym, ap, ap₂, ◌∙◌}
-use mathlib.Core.Bool.{Bool, true, false, ◌&&◌, ◌||◌, not}
-use mathlib.Core.List.{List, [], ◌∷◌}
+use mathlib.Core.Bool.{Bool, false, ◌&&◌, ◌||◌, not}
+use mathlib.Core.List.{List}
 use lib.ListN.{length, get_or, drop}
 use lib.Seq.{drop-cons}
-use denote.Enum.Declared.{tag_of}
-use types.Run.{OneOf, miss}
+use Rattle.word.specs.declared.Head.{Head}
 use Rattle.word.specs.declared.Word.{Word}
 use Rattle.word.specs.declared.Word.TheVariants.{Single, First, Later, Tuning, Administration, Index7, Beyond}
 use Rattle.word.specs.Kind.{kind_of}
-use Rattle.word.specs.contracts.Word as word
 use Rattle.assembler.specs.declared.Assembler.{Assembler}
 use Rattle.assembler.specs.declared.Advance.{Advance}
 use Rattle.assembler.specs.Reading.{Reads}
@@ -19,15 +17,15 @@ use Rattle.assembler.specs.Advance.{advance_of}
 use Rattle.messages.specs.Messages.{is_empty, begins, passes, whole_from}
 
 -- a word of another variant than a single group's and a first group's
-pub no_beginning : (w : Word) → OneOf (2 ∷ 3 ∷ 4 ∷ 5 ∷ 6 ∷ []) (tag_of word.the_type w) → begins w ≡ false
+pub no_beginning : (w : Word) → ((duration diversion : ℕ) (head : Head) → w ≡ Single duration diversion head → ⊥) → ((ci : ℕ) (head : Head) → w ≡ First ci head → ⊥) → begins w ≡ false
 unfolding begins
-no_beginning (Single duration diversion head) k = absurd (miss (2 ∷ 3 ∷ 4 ∷ 5 ∷ 6 ∷ []) 0 tt k)
-no_beginning (First ci head) k = absurd (miss (2 ∷ 3 ∷ 4 ∷ 5 ∷ 6 ∷ []) 1 tt k)
-no_beginning (Later ci second gsi content) k = refl
-no_beginning (Tuning n) k = refl
-no_beginning (Administration n) k = refl
-no_beginning (Index7 n) k = refl
-no_beginning (Beyond n) k = refl
+no_beginning (Single duration diversion head) single first = absurd (single duration diversion head refl)
+no_beginning (First ci head) single first = absurd (first ci head refl)
+no_beginning (Later ci second gsi content) single first = refl
+no_beginning (Tuning n) single first = refl
+no_beginning (Administration n) single first = refl
+no_beginning (Index7 n) single first = refl
+no_beginning (Beyond n) single first = refl
 
 -- the first word decides, by what was found of the state, of the word's kind k and of what it does, and then the rest
 pub whole-next : (read : Reads) (a : Assembler) (ws : List ℕ) (i : ℕ) (e b v : Bool) (k : Word) (s : Advance) → i < length ws

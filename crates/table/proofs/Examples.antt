@@ -75,13 +75,13 @@ unfolding computing
 foreign-location = refl
 
 -- an INTER-ROAD report without items at a real location in table 1 of country 13
-abbrev pub inter_road : ℕ → Arrival
-inter_road real = record { report = multi_report (record { direction = 0; extent = 0; event = 0; location = 0xFF41 }) real []; service = record { country = 1; ltn = 1; sid = 1 }; minute = record { 0 = 0 } }
+abbrev pub inter_road_arrival : ℕ → Arrival
+inter_road_arrival real = record { report = multi_report (record { direction = 0; extent = 0; event = 0; location = 0xFF41 }) real []; service = record { country = 1; ltn = 1; sid = 1 }; minute = record { 0 = 0 } }
 
-pub real_location : take_step free_record catalogue lives 0 (inter_road 0xFBFF) (pos 0) Drop ≡ step 0 (Stored 0 0 0)
+pub real_location : take_step free_record catalogue lives 0 (inter_road_arrival 0xFBFF) (pos 0) Drop ≡ step 0 (Stored 0 0 0)
 unfolding computing
 real_location = refl
 
-pub no_real_location : take_step free_record catalogue lives 0 (inter_road 0xFC00) (pos 0) Drop ≡ step 0 (Refused 12)
+pub no_real_location : take_step free_record catalogue lives 0 (inter_road_arrival 0xFC00) (pos 0) Drop ≡ step 0 (Refused 12)
 unfolding computing
 no_real_location = refl

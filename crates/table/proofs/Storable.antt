@@ -23,13 +23,13 @@ use Rattle.checks.proofs.Checked.{Checked, asked_report, ends}
 use Rattle.table.specs.Take.{record_for}
 
 module _ (t c l : List ℕ) (last : ℕ) (a : Arrival) (lto : ℤ) (ok : Checked t c l last a lto) where
-  pub can_make : kind_for c a.report ≡ 1 → can_make a.report a.service (set_for c a.report) (expiry_for c l a lto) ≡ true
+  pub can_make_lem : kind_for c a.report ≡ 1 → can_make a.report a.service (set_for c a.report) (expiry_for c l a lto) ≡ true
   unfolding can_make asked_fit
-  can_make kind =
+  can_make_lem kind =
       let both : (x y : Bool) → x ≡ true → y ≡ true → x && y ≡ true = λ x y e f. ap₂ (λ (u v : Bool). u && v) e f in
       let service = and_left (service_fits a.service) (offset_fits lto) (and_right (report_fits a.report) (service_fits a.service && offset_fits lto) ok.asked) in
       let set = set-fits c a.report (lent_catalogue t c l ok.lent) (ap (λ (b : Bool). b || eqb (kind_for c a.report) 2) (eq-eqb (kind_for c a.report) 1 kind)) in
       both _ _ (both _ _ service (both _ _ set (le-leb 1 (expiry_for c l a lto) (ends t c l last a lto ok).0))) (asked_report t c l last a lto ok.asked)
 
   pub record_fits : kind_for c a.report ≡ 1 → well_formed (record_for c l a lto) ≡ true
-  record_fits kind = made_fits a.report a.service (set_for c a.report) (expiry_for c l a lto) (can_make kind) (set_small c a.report) (ends t c l last a lto ok).1
+  record_fits kind = made_fits a.report a.service (set_for c a.report) (expiry_for c l a lto) (can_make_lem kind) (set_small c a.report) (ends t c l last a lto ok).1

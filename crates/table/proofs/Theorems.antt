@@ -48,7 +48,7 @@ use Rattle.table.proofs.Counts.{count_map, count_none, count_set, all-within, al
 use Rattle.table.proofs.Sweeps.{length-records, length_over, records-over}
 use Rattle.table.proofs.Storing.{length-stored, records-stored}
 use Rattle.table.proofs.Freeing.{freed-either, freed-keeps, each_record, second_gone, length_both, records_both, both_at_once}
-use Rattle.table.proofs.Storable.{can_make, record_fits}
+use Rattle.table.proofs.Storable.{can_make_lem, record_fits}
 use Rattle.table.proofs.Takes.{accepted_take}
 use Rattle.table.proofs.Accepted.{matches_never, made_sized, ok, whole, inside, both_whole, both_inside, after-take}
 
@@ -138,7 +138,7 @@ module _ (t c l : List ℕ) (last : ℕ) (a : Arrival) (lto : ℤ) (full : WhenF
 
       -- what its record is made of
       can : can_make a.report a.service (set_for c a.report) (expiry_for c l a lto) ≡ true
-      can = can_make t c l last a lto (ok t c l last a lto full fine) is-1
+      can = can_make_lem t c l last a lto (ok t c l last a lto full fine) is-1
 
       stored-records : records after ≡ set freed place (record_for c l a lto)
       unfolding taken_table after_storing

@@ -1,15 +1,12 @@
-use Prim.Native.Nat.{◌-◌, ◌≤◌}
 use native.Mathlib.Numerals.{add-one}
 use native.Mathlib.Omega.{arith}
-use mathlib.Core.Path.{◌≡◌, sym, ap, ◌∙◌}
+use mathlib.Core.Path.{sym, ap, ◌∙◌}
 use mathlib.Core.Bool.{true, false}
-use lib.ListN.{length, drop, drop_of_length-le}
-use borrow.Author.Tests.{not-true, not-false}
+use lib.ListN.{drop_of_length-le}
 use Rattle.report.specs.Read.{read_report}
 use Rattle.assembler.specs.declared.Assembler.{Assembler}
-use Rattle.messages.specs.Messages.{whole, whole_from}
+use Rattle.messages.specs.Messages.{whole_from}
 use Rattle.messages.proofs.Feeding.{whole-next}
-use borrow.Author.Rules.{rules}
 use Rattle.messages.proofs.are_whole.Goals as goal
 
 pub loop-i-init : goal.loop-i-init

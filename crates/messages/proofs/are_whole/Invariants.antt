@@ -1,15 +1,8 @@
 use Prim.Native.Nat.{◌-◌, ◌≤◌}
-use native.Mathlib.Numerals.{add-one}
-use native.Mathlib.Omega.{arith}
-use mathlib.Core.Path.{◌≡◌, sym, ap, ◌∙◌}
-use mathlib.Core.Bool.{true, false}
-use lib.ListN.{length, drop, drop_of_length-le}
-use borrow.Author.Tests.{not-true, not-false}
+use mathlib.Core.Path.{◌≡◌}
+use lib.ListN.{length, drop}
 use Rattle.report.specs.Read.{read_report}
-use Rattle.assembler.specs.declared.Assembler.{Assembler}
 use Rattle.messages.specs.Messages.{whole, whole_from}
-use Rattle.messages.proofs.Feeding.{whole-next}
-use borrow.Author.Rules.{rules}
 use Rattle.messages.proofs.are_whole.Given as goal
 
 abbrev pub invariant-loop-i : goal.invariant-loop-i

@@ -2,7 +2,6 @@
 use mathlib.Core.Path.{sym, ap}
 use Rattle.messages.specs.Messages.{begins}
 use Rattle.messages.proofs.Feeding.{no_beginning}
-use borrow.Author.Rules.{rules}
 use Rattle.messages.proofs.begins.Goals as goal
 
 pub returns-in-Single : goal.returns-in-Single
@@ -14,4 +13,4 @@ unfolding begins
 returns-in-First c = sym (ap begins c.in-First.is)
 
 pub returns-in_default : goal.returns-in_default
-returns-in_default c = sym (no_beginning c.args.word c.in_default-own.keys3)
+returns-in_default c = sym (no_beginning c.args.word c.in_default.not-Single c.in_default.not-First)

@@ -1,7 +1,6 @@
 -- By whether a message is open.
 use mathlib.Core.Path.{sym, ap}
 use Rattle.messages.specs.Messages.{is_empty}
-use borrow.Author.Rules.{rules}
 use Rattle.messages.proofs.is_empty.Goals as goal
 
 pub returns-in-Empty : goal.returns-in-Empty
