@@ -39,7 +39,7 @@ use Rattle.table.specs.Records.{over}
 use Rattle.table.proofs.Counts.{all-within, all_both, all_map}
 use Rattle.table.proofs.Sweeps.{length_over, records-over}
 use Rattle.table.proofs.Storing.{joined-records}
-use Rattle.table.proofs.Storable.{can_make}
+use Rattle.table.proofs.Storable.{can_make_lem}
 use Rattle.table.proofs.Accepted.{ok}
 use Rattle.table.proofs.Theorems.{record_no, fits_again, each_keeps, each-keeps-expiry}
 use Rattle.renewal.specs.declared.Answer.TheVariants.{Renewed}
@@ -133,11 +133,11 @@ module _ (c t lives : List ℕ) (last : ℕ) (a : Arrival) (lto : ℤ) (full : W
 
   stored-classed : classed c (record_for c lives a lto) ≡ true
   stored-classed =
-      made_classed c a.report a.service (set_for c a.report) (expiry_for c lives a lto) sized (can_make t c lives last a lto checked is-1) (set_small c a.report) (ends t c lives last a lto checked).1
+      made_classed c a.report a.service (set_for c a.report) (expiry_for c lives a lto) sized (can_make_lem t c lives last a lto checked is-1) (set_small c a.report) (ends t c lives last a lto checked).1
       ∙ ap (λ (b : Bool). b || eqb (kind_for c a.report) 2) (eq-eqb (kind_for c a.report) 1 is-1)
 
   stored-current : current c (record_for c lives a lto) ≡ true
-  stored-current = made_current c a.report a.service (expiry_for c lives a lto) sized (can_make t c lives last a lto checked is-1) (ends t c lives last a lto checked).1
+  stored-current = made_current c a.report a.service (expiry_for c lives a lto) sized (can_make_lem t c lives last a lto checked is-1) (ends t c lives last a lto checked).1
 
 -- A current record matches by its set if it does by its events.
 module _ (c r : List ℕ) where

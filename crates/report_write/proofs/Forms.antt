@@ -19,9 +19,9 @@ module _ (ci : ℕ) (r : Report) where
     unfolding can_write
     report-fits = and_left (report_fits r) (index_fits r.form ci) ok
 
-    pub real_fits : real_fits r.form r.head r.real ≡ true
+    pub real_fits_lem : real_fits r.form r.head r.real ≡ true
     unfolding report_fits
-    real_fits = and_left (real_fits r.form r.head r.real) (fits_by r.form r) report-fits
+    real_fits_lem = and_left (real_fits r.form r.head r.real) (fits_by r.form r) report-fits
 
     form_fits : fits_by r.form r ≡ true
     unfolding report_fits

@@ -39,7 +39,7 @@ use Rattle.bits.specs.declared.Writing.TheVariants.{Written, Refused}
 use Rattle.report_write.specs.Write.{contents_of, tail_word, tail_words, later_words, single_words, multi_words, words_by, words_of, can_write, answer_for, buffer_after, write_report, words_after}
 use Rattle.report_write.proofs.Tail.{later-fits}
 use Rattle.report_write.proofs.Multi.{index_lt, first_fits}
-use Rattle.report_write.proofs.Forms.{real_fits, single-fits, multi-fits, multi_index}
+use Rattle.report_write.proofs.Forms.{real_fits_lem, single-fits, multi-fits, multi_index}
 use Rattle.report_write.proofs.AsRead.{single-kind, first_kind, later-kind, contents_read}
 
 -- the groups of words that all arrive
@@ -81,7 +81,7 @@ module _ (ci : ℕ) (r : Report) (sized : length r.items.places ≡ limit) (ok :
   single_formed e =
       let f = single-fits ci r ok e in
       let ranges = and_left (fits head_format (single_values r.duration r.diversion r.head)) (well_placed r.items && eqb r.items.count 0) f in
-      subst (WellFormed single_report (numbered read_report) (heard (single_words r))) (single_is_report r sized (real_fits ci r ok) f e) (alone (single-kind r.duration r.diversion r.head ranges))
+      subst (WellFormed single_report (numbered read_report) (heard (single_words r))) (single_is_report r sized (real_fits_lem ci r ok) f e) (alone (single-kind r.duration r.diversion r.head ranges))
 
   groups_formed : r.form ≡ form.Multi → WellFormed single_report (numbered read_report) (heard (multi_words ci r)) r
   unfolding multi_words contents_of
@@ -92,7 +92,7 @@ module _ (ci : ℕ) (r : Report) (sized : length r.items.places ≡ limit) (ok :
       let n = groups (length l) - 1 in
       let short = content_short r f in
       let long = length-words group_bits n (padded l) in
-      multi_formed ci i r.head (contents_of l) r (first_fits ci r f i) (omega arith) (omega arith) (contents_lt n (padded l)) (contents_read r sized (real_fits ci r ok) f e)
+      multi_formed ci i r.head (contents_of l) r (first_fits ci r f i) (omega arith) (omega arith) (contents_lt n (padded l)) (contents_read r sized (real_fits_lem ci r ok) f e)
 
   -- the words are those of a well-formed message, whose report it is
   pub well_formed : WellFormed single_report (numbered read_report) (heard (words_of ci r)) r
