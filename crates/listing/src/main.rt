@@ -1,14 +1,22 @@
 // Lists the traffic messages of a recording: frames of the house form from standard input, lines to standard output.
 #![tactic(auto)]
 
-ghost use Rattle.std.specs.Prelude.{◌≡◌, ◌≤◌, length};
-ghost use Rattle.lines.specs.Line.{room};
+ghost use Rattle.std.specs.Prelude.{◌≡◌, ◌≤◌, true, false, length, take, IfOk, IfSome, OnOk};
+ghost use Rattle.std.specs.Io.KnownBytes.{Appends};
+ghost use Rattle.lines.specs.Line.{header, room};
+ghost use Rattle.session.specs.Session.{start, frame_room};
+ghost use Rattle.recording.specs.Listing.{Listed, lines_from, listing as whole_listing};
+ghost use Rattle.listing.specs.Owed.{HaveRoom, KeepsOwed, Reads};
 
+use anyhow::{Context, Result, bail};
 use framing::input::keep;
-use libc::{STDIN_FILENO, STDOUT_FILENO};
 use lines::line::put_header;
 use recording::{Answer, Progress, list};
 use session::Session;
+use std::io::{Read, Write};
+
+// The bytes of the input buffer, and of the buffer for lines.
+const BUFFER: usize = 65536;
 
 // What goes on from turn to turn: the bytes from..end of the input buffer are still to be listed.
 #[derive(Clone, Copy)]
@@ -19,84 +27,104 @@ struct State {
     // The input is at its end.
     last: bool,
     // There is more to do.
-    open: bool,
+    more: bool,
 }
 
-fn main() {
-    let mut input = io::large_buffer();
-    let mut out = io::large_buffer();
-    if print_header(&mut out) {
-        list_all(&mut input, &mut out);
-    }
+fn main(rt: HostRuntime) -> Result<()> {
+    let mut reader = rt.stdin();
+    let mut writer = rt.stdout();
+    list_recording(&mut reader, &mut writer)
 }
 
-// Prints the header, and answers whether it could be written.
-fn print_header(out: &mut [u8]) -> bool
+// Writes the listing of all that a reader gives.
+pub fn list_recording<R: Read, W: Write>(reader: &mut R, writer: &mut W) -> Result<()>
+    ensures { OnOk result (IfSome (R.remaining reader.old) (λ xs. Appends (W.contents writer.old) (W.contents writer.new) (whole_listing xs))) }
+{
+    let mut input = [0u8; BUFFER];
+    let mut out = [0u8; BUFFER];
+    print_header(writer, &mut out)?;
+    list_all(reader, writer, &mut input, &mut out)
+}
+
+// Prints the header.
+fn print_header<W: Write>(writer: &mut W, out: &mut [u8]) -> Result<()>
     requires { room ≤ length out.old }
+    ensures { OnOk result (Appends (W.contents writer.old) (W.contents writer.new) header) }
 {
     let end = put_header(out, 0);
-    if !io::write_all(STDOUT_FILENO, &out[..end]) {
-        os::fail(b"standard output");
-        return false;
-    }
-    true
+    writer.write_all(&out[..end]).context("standard output")?;
+    Ok(())
 }
 
-// Lists all of the input. A proved loop has to end, and nothing says that the input does: so the loop counts its turns down, from a
+// Lists all of the input. A proved loop has to end, and nothing says that the input does: so the loop counts its turns, up to a
 // number that no run uses up.
-fn list_all(input: &mut [u8], out: &mut [u8]) {
+fn list_all<R: Read, W: Write>(
+    reader: &mut R,
+    writer: &mut W,
+    input: &mut [u8],
+    out: &mut [u8],
+) -> Result<()>
+    ensures { HaveRoom input.old out.old → OnOk result (IfSome (R.remaining reader.old) (λ xs. Appends (W.contents writer.old) (W.contents writer.new) (lines_from start xs))) }
+{
     let mut state = State {
         session: Session::new(),
         from: 0,
         end: 0,
         last: false,
-        open: true,
+        more: true,
     };
-    let mut turns = u64::MAX;
-    while 0 < turns {
-        if !state.open {
-            return;
+    for _ in 0..u64::MAX {
+        if !state.more {
+            return Ok(());
         }
-        state = turn(state, input, out);
-        turns -= 1;
+        state = turn(state, reader, writer, input, out)?;
     }
+    bail!("too many turns")
 }
 
 // Lists the bytes at hand and writes their lines. Reads more only where they gave none.
-fn turn(state: State, input: &mut [u8], out: &mut [u8]) -> State
+fn turn<R: Read, W: Write>(
+    state: State,
+    reader: &mut R,
+    writer: &mut W,
+    input: &mut [u8],
+    out: &mut [u8],
+) -> Result<State>
     requires { (state.from ≤ state.end) × (state.end ≤ length input.old) }
-    ensures { (result.from ≤ result.end) × (result.end ≤ length input.new) }
+    ensures within { IfOk result (λ s. (s.from ≤ s.end) × (s.end ≤ length input.new)) }
+    ensures owed { HaveRoom input.old out.old → state.more ≡ true → IfOk result (λ s. KeepsOwed state input.old (R.remaining reader.old) (W.contents writer.old) s input.new (R.remaining reader.new) (W.contents writer.new)) }
 {
-    let session = state.session;
-    let from = state.from;
-    let end = state.end;
-    let progress = list_bytes(session, &input[from..end], state.last, out);
-    let written = progress.written;
+    let progress = list_bytes(
+        state.session,
+        &input[state.from..state.end],
+        state.last,
+        out,
+    );
     let after = progress.session;
-    let next = from + progress.taken;
-    if !io::write_all(STDOUT_FILENO, &out[..written]) {
-        os::fail(b"standard output");
-        return closed(after);
-    }
+    let next = state.from + progress.taken;
+    writer
+        .write_all(&out[..progress.written])
+        .context("standard output")?;
     if progress.ended {
-        return closed(after);
+        return Ok(closed(after));
     }
-    if 0 < written {
-        return State {
+    if 0 < progress.written {
+        return Ok(State {
             session: after,
             from: next,
-            end,
+            end: state.end,
             last: state.last,
-            open: true,
-        };
+            more: true,
+        });
     }
-    let kept = keep(&mut input[..end], next);
-    read_more(after, input, kept)
+    let kept = keep(&mut input[..state.end], next);
+    read_more(after, reader, input, kept)
 }
 
 // Lists some bytes. The buffer that the program lends is larger than the listing asks for; a smaller one would end it.
 fn list_bytes(session: Session, s: &[u8], last: bool, out: &mut [u8]) -> Progress
-    ensures { (result.taken ≤ length s.now) × (result.written ≤ length out.new) }
+    ensures within { (result.taken ≤ length s.now) × (result.written ≤ length out.new) }
+    ensures listed { frame_room ≤ length out.old → Listed session s.now last out.old result out.new }
 {
     let answer = list(session, s, last, out);
     match answer {
@@ -112,33 +140,35 @@ fn list_bytes(session: Session, s: &[u8], last: bool, out: &mut [u8]) -> Progres
 
 // Nothing more to do.
 fn closed(session: Session) -> State
-    ensures { (result.from ≡ 0) × (result.end ≡ 0) }
+    ensures bounds { (result.from ≡ 0) × (result.end ≡ 0) }
+    ensures closed { result.more ≡ false }
 {
     State {
         session,
         from: 0,
         end: 0,
         last: true,
-        open: false,
+        more: false,
     }
 }
 
-// Reads once after the bytes that are kept. Where reading fails, the program says so and stops.
-fn read_more(session: Session, input: &mut [u8], end: usize) -> State
+// Reads once after the bytes that are kept.
+fn read_more<R: Read>(
+    session: Session,
+    reader: &mut R,
+    input: &mut [u8],
+    end: usize,
+) -> Result<State>
     requires { end ≤ length input.old }
-    ensures { (result.from ≤ result.end) × (result.end ≤ length input.new) }
+    ensures within { IfOk result (λ s. (s.from ≤ s.end) × (s.end ≤ length input.new)) }
+    ensures reads { IfOk result (λ s. Reads session (take end input.old) (R.remaining reader.old) s input.new (R.remaining reader.new)) }
 {
-    let got = libc::read(STDIN_FILENO, &mut input[end..]);
-    if got < 0 {
-        os::fail(b"standard input");
-        return closed(session);
-    }
-    let n = io::count(got, &input[end..]);
-    State {
+    let n = reader.read(&mut input[end..]).context("standard input")?;
+    Ok(State {
         session,
         from: 0,
         end: end + n,
         last: n == 0,
-        open: true,
-    }
+        more: true,
+    })
 }

@@ -1,0 +1,20 @@
+-- What was read stands after what was kept.
+use Rattle.std.proofs.Common.{refl, ap, ℕ, take}
+use Rattle.std.proofs.lemmas.Bool.{eqb-true}
+use Rattle.listing.proofs.Owing.{read_hand, got_some}
+use Rattle.listing.proofs.read_more.Goals as goal
+
+pub returns-clause-reads : goal.returns-clause-reads
+returns-clause-reads g c =
+    let bytes = rw c.in_ok-n.ensures at c.read.ensures.bytes in
+    let bound = rw c.in_ok-n.ensures at c.read.ensures.bound in
+    let n = c.in_ok-n.n in
+    record {
+      more = take n c.read.new.buf;
+      same = refl;
+      going = refl;
+      hand = read_hand c.args.end n c.args.input.now c.read.new.buf _ c.requires bound.0;
+      consumes = bytes.0;
+      none = (λ e. ap (λ (m : ℕ). take m c.read.new.buf) (eqb-true n 0 e));
+      ended = (λ e lt. bytes.1 (eqb-true n 0 e) (got_some c.args.end c.args.input.now c.read.new.buf lt));
+    }
