@@ -32,7 +32,7 @@
  * THE CATALOGUES AND THE LIVES BELOW ARE FOR DEMONSTRATION. They know few events and are not those
  * of ISO 14819-2, nor of any service; so is the service that stands until system words name one.
  *
- * Build: rt staticlib capi
+ * Build: tools/build capi
  *        cc -std=c99 -Wall -Wextra -Iinclude examples/box.c target/staticlib/libcapi.a -o box
  */
 #include <stdbool.h>
