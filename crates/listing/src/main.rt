@@ -1,14 +1,14 @@
 // Lists the traffic messages of a recording: frames of the house form from standard input, lines to standard output.
 #![tactic(auto)]
 
-ghost use Rattle.std.specs.Prelude.{◌≡◌, ◌≤◌, true, false, length, take, IfOk, IfSome, OnOk};
+ghost use Rattle.std.specs.Prelude.{◌≡◌, ◌≤◌, true, false, length, take, IfOk, IfSome, IsTrue, OnOk};
 ghost use Rattle.std.specs.Io.KnownBytes.{Appends};
 ghost use Rattle.lines.specs.Line.{header, room};
 ghost use Rattle.session.specs.Session.{start, frame_room};
 ghost use Rattle.recording.specs.Listing.{Listed, lines_from, listing as whole_listing};
 ghost use Rattle.listing.specs.Owed.{HaveRoom, KeepsOwed, Reads};
 
-use anyhow::{Context, Result, bail};
+use anyhow::{Context, Result};
 use framing::input::keep;
 use lines::line::put_header;
 use recording::{Answer, Progress, list};
@@ -33,12 +33,13 @@ struct State {
 fn main(rt: HostRuntime) -> Result<()> {
     let mut reader = rt.stdin();
     let mut writer = rt.stdout();
-    list_recording(&mut reader, &mut writer)
+    list_recording(&mut reader, &mut writer)?;
+    Ok(())
 }
 
-// Writes the listing of all that a reader gives.
-pub fn list_recording<R: Read, W: Write>(reader: &mut R, writer: &mut W) -> Result<()>
-    ensures { OnOk result (IfSome (R.remaining reader.old) (λ xs. Appends (W.contents writer.old) (W.contents writer.new) (whole_listing xs))) }
+// Writes the listing of all that a reader gives, and answers whether it got to the end.
+pub fn list_recording<R: Read, W: Write>(reader: &mut R, writer: &mut W) -> Result<bool>
+    ensures { IfOk result (λ whole. IsTrue whole → IfSome (R.remaining reader.old) (λ xs. Appends (W.contents writer.old) (W.contents writer.new) (whole_listing xs))) }
 {
     let mut input = [0u8; BUFFER];
     let mut out = [0u8; BUFFER];
@@ -57,14 +58,14 @@ fn print_header<W: Write>(writer: &mut W, out: &mut [u8]) -> Result<()>
 }
 
 // Lists all of the input. A proved loop has to end, and nothing says that the input does: so the loop counts its turns, up to a
-// number that no run uses up.
+// number that no run uses up. Answers whether the listing is whole.
 fn list_all<R: Read, W: Write>(
     reader: &mut R,
     writer: &mut W,
     input: &mut [u8],
     out: &mut [u8],
-) -> Result<()>
-    ensures { HaveRoom input.old out.old → OnOk result (IfSome (R.remaining reader.old) (λ xs. Appends (W.contents writer.old) (W.contents writer.new) (lines_from start xs))) }
+) -> Result<bool>
+    ensures { HaveRoom input.old out.old → IfOk result (λ whole. IsTrue whole → IfSome (R.remaining reader.old) (λ xs. Appends (W.contents writer.old) (W.contents writer.new) (lines_from start xs))) }
 {
     let mut state = State {
         session: Session::new(),
@@ -75,11 +76,11 @@ fn list_all<R: Read, W: Write>(
     };
     for _ in 0..u64::MAX {
         if !state.more {
-            return Ok(());
+            return Ok(true);
         }
         state = turn(state, reader, writer, input, out)?;
     }
-    bail!("too many turns")
+    Ok(false)
 }
 
 // Lists the bytes at hand and writes their lines. Reads more only where they gave none.
