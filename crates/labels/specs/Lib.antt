@@ -1,0 +1,3 @@
+pub mod Telephone
+pub mod Rules
+pub mod Rows
