@@ -29,17 +29,17 @@ no-choice t c l last a lto number fits h e =
 
 pub returns-then-lent_fit : goal.returns-then-lent_fit
 returns-then-lent_fit c =
-    let a = c.args in let both = no-choice a.t.now a.catalogue.now a.lives.now a.last.0 a.arrival a.lto a.choice true (omega (arith, c.if-choice-gt1.true)) (sym c.lent_fit.ensures ∙ c.if-lent_fit.true) in record { value = both.0; t_after = both.1 }
+    let a = c.args in let both = no-choice a.t.now a.catalogue.now a.lives.now a.last.0 a.arrival a.lto a.choice true (omega arith) (sym c.lent_fit.ensures ∙ c.if-lent_fit.true) in record { value = both.0; t_after = both.1 }
 
 pub returns-else-lent_fit : goal.returns-else-lent_fit
 returns-else-lent_fit c =
-    let a = c.args in let both = no-choice a.t.now a.catalogue.now a.lives.now a.last.0 a.arrival a.lto a.choice false (omega (arith, c.if-choice-gt1.true)) (sym c.lent_fit.ensures ∙ c.if-lent_fit.false) in record { value = both.0; t_after = both.1 }
+    let a = c.args in let both = no-choice a.t.now a.catalogue.now a.lives.now a.last.0 a.arrival a.lto a.choice false (omega arith) (sym c.lent_fit.ensures ∙ c.if-lent_fit.false) in record { value = both.0; t_after = both.1 }
 
 pub returns : goal.returns
 unfolding chosen_step chosen_table
 returns c =
     let a = c.args in
-    let on = le-leb a.choice 1 c.if-choice-gt1.false in
+    let on = le-leb a.choice 1 (omega arith) in
     let same = to_z-of_z w8 a.lto c.ranges.lto in
     let full = c.when_full.ensures in
     let taken = c.take.ensures in record { value = taken.value ∙ ap₂ (λ (z : ℤ) (w : WhenFull). take_step a.t.now a.catalogue.now a.lives.now a.last.0 a.arrival z w) same full ∙ sym (chosen _ _ _ on); t_after = taken.t_after ∙ ap₂ (λ (z : ℤ) (w : WhenFull). take_table a.t.now a.catalogue.now a.lives.now a.last.0 a.arrival z w) same full ∙ sym (chosen _ _ _ on) }
