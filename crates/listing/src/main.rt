@@ -1,22 +1,33 @@
 // Lists the traffic messages of a recording: frames of the house form from standard input, lines to standard output.
 #![tactic(auto)]
 
-ghost use Rattle.std.specs.Prelude.{◌≡◌, ◌≤◌, true, false, length, take, IfOk, IfSome, IsTrue, OnOk};
+ghost use Rattle.std.specs.Prelude.{◌≡◌, ◌≤◌, true, false, length, take, IfErr, IfOk, IfSome, IsTrue, OnOk};
 ghost use Rattle.std.specs.Io.KnownBytes.{Appends};
 ghost use Rattle.lines.specs.Line.{header, room};
 ghost use Rattle.session.specs.Session.{start, frame_room};
 ghost use Rattle.recording.specs.Listing.{Listed, lines_from, listing as whole_listing};
 ghost use Rattle.listing.specs.Owed.{HaveRoom, KeepsOwed, Reads};
+ghost use Rattle.listing.specs.Failures.{IsInput, IsOutput};
 
-use anyhow::{Context, Result};
 use framing::input::keep;
 use lines::line::put_header;
 use recording::{Answer, Progress, list};
 use session::Session;
+use std::io;
 use std::io::{Read, Write};
+use thiserror::Error;
 
 // The bytes of the input buffer, and of the buffer for lines.
 const BUFFER: usize = 65536;
+
+// The stream that failed. No other error comes.
+#[derive(Debug, Drop, Error)]
+pub enum Failure {
+    #[error("standard input: {0}")]
+    Input(io::Error),
+    #[error("standard output: {0}")]
+    Output(io::Error),
+}
 
 // What goes on from turn to turn: the bytes from..end of the input buffer are still to be listed.
 #[derive(Clone, Copy)]
@@ -30,7 +41,7 @@ struct State {
     more: bool,
 }
 
-fn main(rt: HostRuntime) -> Result<()> {
+fn main(rt: HostRuntime) -> anyhow::Result<()> {
     let mut reader = rt.stdin();
     let mut writer = rt.stdout();
     list_recording(&mut reader, &mut writer)?;
@@ -38,7 +49,7 @@ fn main(rt: HostRuntime) -> Result<()> {
 }
 
 // Writes the listing of all that a reader gives, and answers whether it got to the end.
-pub fn list_recording<R: Read, W: Write>(reader: &mut R, writer: &mut W) -> Result<bool>
+pub fn list_recording<R: Read, W: Write>(reader: &mut R, writer: &mut W) -> Result<bool, Failure>
     ensures { IfOk result (λ whole. IsTrue whole → IfSome (R.remaining reader.old) (λ xs. Appends (W.contents writer.old) (W.contents writer.new) (whole_listing xs))) }
 {
     let mut input = [0u8; BUFFER];
@@ -48,13 +59,25 @@ pub fn list_recording<R: Read, W: Write>(reader: &mut R, writer: &mut W) -> Resu
 }
 
 // Prints the header.
-fn print_header<W: Write>(writer: &mut W, out: &mut [u8]) -> Result<()>
+fn print_header<W: Write>(writer: &mut W, out: &mut [u8]) -> Result<(), Failure>
     requires { room ≤ length out.old }
-    ensures { OnOk result (Appends (W.contents writer.old) (W.contents writer.new) header) }
+    ensures written { OnOk result (Appends (W.contents writer.old) (W.contents writer.new) header) }
+    ensures failed { IfErr result IsOutput }
+    ensures lengths { length out.new ≡ length out.old }
 {
     let end = put_header(out, 0);
-    writer.write_all(&out[..end]).context("standard output")?;
-    Ok(())
+    write(writer, &out[..end])
+}
+
+// Writes bytes.
+fn write<W: Write>(writer: &mut W, bytes: &[u8]) -> Result<(), Failure>
+    ensures written { OnOk result (Appends (W.contents writer.old) (W.contents writer.new) bytes.now) }
+    ensures failed { IfErr result IsOutput }
+{
+    match writer.write_all(bytes) {
+        Ok(()) => Ok(()),
+        Err(e) => Err(Failure::Output(e)),
+    }
 }
 
 // Lists all of the input. A proved loop has to end, and nothing says that the input does: so the loop counts its turns, up to a
@@ -64,8 +87,9 @@ fn list_all<R: Read, W: Write>(
     writer: &mut W,
     input: &mut [u8],
     out: &mut [u8],
-) -> Result<bool>
-    ensures { HaveRoom input.old out.old → IfOk result (λ whole. IsTrue whole → IfSome (R.remaining reader.old) (λ xs. Appends (W.contents writer.old) (W.contents writer.new) (lines_from start xs))) }
+) -> Result<bool, Failure>
+    ensures listed { HaveRoom input.old out.old → IfOk result (λ whole. IsTrue whole → IfSome (R.remaining reader.old) (λ xs. Appends (W.contents writer.old) (W.contents writer.new) (lines_from start xs))) }
+    ensures lengths { (length input.new ≡ length input.old) × (length out.new ≡ length out.old) }
 {
     let mut state = State {
         session: Session::new(),
@@ -90,10 +114,11 @@ fn turn<R: Read, W: Write>(
     writer: &mut W,
     input: &mut [u8],
     out: &mut [u8],
-) -> Result<State>
+) -> Result<State, Failure>
     requires { (state.from ≤ state.end) × (state.end ≤ length input.old) }
     ensures within { IfOk result (λ s. (s.from ≤ s.end) × (s.end ≤ length input.new)) }
     ensures owed { HaveRoom input.old out.old → state.more ≡ true → IfOk result (λ s. KeepsOwed state input.old (R.remaining reader.old) (W.contents writer.old) s input.new (R.remaining reader.new) (W.contents writer.new)) }
+    ensures lengths { (length input.new ≡ length input.old) × (length out.new ≡ length out.old) }
 {
     let progress = list_bytes(
         state.session,
@@ -103,9 +128,7 @@ fn turn<R: Read, W: Write>(
     );
     let after = progress.session;
     let next = state.from + progress.taken;
-    writer
-        .write_all(&out[..progress.written])
-        .context("standard output")?;
+    write(writer, &out[..progress.written])?;
     if progress.ended {
         return Ok(closed(after));
     }
@@ -159,17 +182,21 @@ fn read_more<R: Read>(
     reader: &mut R,
     input: &mut [u8],
     end: usize,
-) -> Result<State>
+) -> Result<State, Failure>
     requires { end ≤ length input.old }
     ensures within { IfOk result (λ s. (s.from ≤ s.end) × (s.end ≤ length input.new)) }
     ensures reads { IfOk result (λ s. Reads session (take end input.old) (R.remaining reader.old) s input.new (R.remaining reader.new)) }
+    ensures failed { IfErr result IsInput }
+    ensures lengths { length input.new ≡ length input.old }
 {
-    let n = reader.read(&mut input[end..]).context("standard input")?;
-    Ok(State {
-        session,
-        from: 0,
-        end: end + n,
-        last: n == 0,
-        more: true,
-    })
+    match reader.read(&mut input[end..]) {
+        Ok(n) => Ok(State {
+            session,
+            from: 0,
+            end: end + n,
+            last: n == 0,
+            more: true,
+        }),
+        Err(e) => Err(Failure::Input(e)),
+    }
 }

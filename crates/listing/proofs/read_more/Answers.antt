@@ -4,11 +4,11 @@ use Rattle.std.proofs.lemmas.Bool.{eqb-true}
 use Rattle.listing.proofs.Owing.{read_hand, got_some}
 use Rattle.listing.proofs.read_more.Goals as goal
 
-pub returns-clause-reads : goal.returns-clause-reads
-returns-clause-reads g c =
-    let bytes = rw c.in_ok-n.ensures at c.read.ensures.bytes in
-    let bound = rw c.in_ok-n.ensures at c.read.ensures.bound in
-    let n = c.in_ok-n.n in
+pub returns-in-Ok-clause-reads : goal.returns-in-Ok-clause-reads
+returns-in-Ok-clause-reads g c =
+    let bytes = c.in-Ok.ensures.bytes in
+    let bound = c.in-Ok.ensures.bound in
+    let n = c.in-Ok.n in
     record {
       more = take n c.read.new.buf;
       same = refl;
