@@ -4,6 +4,7 @@
 ghost use Rattle.std.specs.Prelude.{◌≡◌, ◌≤◌, true, false, length, take, IfErr, IfOk, IfSome, IsTrue, OnOk};
 ghost use Rattle.std.specs.Io.KnownBytes.{Appends};
 ghost use Rattle.lines.specs.Line.{header, room};
+ghost use Rattle.lines.specs.Text.{put};
 ghost use Rattle.session.specs.Session.{start, frame_room};
 ghost use Rattle.recording.specs.Listing.{Listed, lines_from, listing as whole_listing};
 ghost use Rattle.listing.specs.Owed.{HaveRoom, KeepsOwed, Reads};
@@ -63,7 +64,7 @@ fn print_header<W: Write>(writer: &mut W, out: &mut [u8]) -> Result<(), Failure>
     requires { room ≤ length out.old }
     ensures written { OnOk result (Appends (W.contents writer.old) (W.contents writer.new) header) }
     ensures failed { IfErr result IsOutput }
-    ensures lengths { length out.new ≡ length out.old }
+    ensures out_after { out.new ≡ put 0 header out.old }
 {
     let end = put_header(out, 0);
     write(writer, &out[..end])
@@ -81,15 +82,14 @@ fn write<W: Write>(writer: &mut W, bytes: &[u8]) -> Result<(), Failure>
 }
 
 // Lists all of the input. A proved loop has to end, and nothing says that the input does: so the loop counts its turns, up to a
-// number that no run uses up. Answers whether the listing is whole.
+// number that no run uses up. Answers whether the listing is whole. What the buffers hold then is not said.
 fn list_all<R: Read, W: Write>(
     reader: &mut R,
     writer: &mut W,
     input: &mut [u8],
     out: &mut [u8],
 ) -> Result<bool, Failure>
-    ensures listed { HaveRoom input.old out.old → IfOk result (λ whole. IsTrue whole → IfSome (R.remaining reader.old) (λ xs. Appends (W.contents writer.old) (W.contents writer.new) (lines_from start xs))) }
-    ensures lengths { (length input.new ≡ length input.old) × (length out.new ≡ length out.old) }
+    ensures { HaveRoom input.old out.old → IfOk result (λ whole. IsTrue whole → IfSome (R.remaining reader.old) (λ xs. Appends (W.contents writer.old) (W.contents writer.new) (lines_from start xs))) }
 {
     let mut state = State {
         session: Session::new(),
@@ -107,7 +107,8 @@ fn list_all<R: Read, W: Write>(
     Ok(false)
 }
 
-// Lists the bytes at hand and writes their lines. Reads more only where they gave none.
+// Lists the bytes at hand and writes their lines. Reads more only where they gave none. Where the lines cannot be written, the bytes
+// at hand stay.
 fn turn<R: Read, W: Write>(
     state: State,
     reader: &mut R,
@@ -118,7 +119,7 @@ fn turn<R: Read, W: Write>(
     requires { (state.from ≤ state.end) × (state.end ≤ length input.old) }
     ensures within { IfOk result (λ s. (s.from ≤ s.end) × (s.end ≤ length input.new)) }
     ensures owed { HaveRoom input.old out.old → state.more ≡ true → IfOk result (λ s. KeepsOwed state input.old (R.remaining reader.old) (W.contents writer.old) s input.new (R.remaining reader.new) (W.contents writer.new)) }
-    ensures lengths { (length input.new ≡ length input.old) × (length out.new ≡ length out.old) }
+    ensures unread { IfErr result (λ e. IsOutput e → input.new ≡ input.old) }
 {
     let progress = list_bytes(
         state.session,
@@ -187,7 +188,7 @@ fn read_more<R: Read>(
     ensures within { IfOk result (λ s. (s.from ≤ s.end) × (s.end ≤ length input.new)) }
     ensures reads { IfOk result (λ s. Reads session (take end input.old) (R.remaining reader.old) s input.new (R.remaining reader.new)) }
     ensures failed { IfErr result IsInput }
-    ensures lengths { length input.new ≡ length input.old }
+    ensures kept { take end input.new ≡ take end input.old }
 {
     match reader.read(&mut input[end..]) {
         Ok(n) => Ok(State {

@@ -11,4 +11,4 @@ unfolding listing
 returns g c =
     on_ok c.list_all.result
     (λ whole lines yes. text_then (g.R.Read.remaining c.args.reader.now) (g.W.Write.contents c.args.writer.now) _ _ header (lines_from start) (rw c.in_ok-print_header.was at c.print_header.ensures.written) (lines yes))
-    (c.list_all.ensures.listed (omega arith, omega arith))
+    (c.list_all.ensures (omega arith, omega arith))
