@@ -1,5 +1,5 @@
 -- What the listing of a recording has written, and what it still owes.
-use Rattle.std.specs.Prelude.{ℕ, ◌-◌, ◌≤◌, ◌<◌, ◌≡◌, true, cond, List, [], ◌++◌, length, take, drop, Option, Some}
+use Rattle.std.specs.Prelude.{ℕ, ◌-◌, ◌≤◌, ◌<◌, ◌≡◌, true, false, cond, List, [], ◌++◌, length, take, drop, Option, Some}
 use Rattle.std.specs.Io.KnownBytes.{Consumes, IsAtEnd}
 use Rattle.session.specs.declared.Session.{Session}
 use Rattle.session.specs.Session.{frame_room}
@@ -34,7 +34,7 @@ pub record Owes (s : State) (input : List ℕ) (remaining contents : Option (Lis
 abbrev pub KeepsOwed : State → List ℕ → Option (List ℕ) → Option (List ℕ) → State → List ℕ → Option (List ℕ) → Option (List ℕ) → Type 0
 KeepsOwed s input remaining contents s' input' remaining' contents' = (all : List ℕ) → Owes s input remaining contents all → Owes s' input' remaining' contents' all
 
--- a read put more bytes after those that were kept. It is taken for the end of the input where it gave none
+-- a read put more bytes after those that were kept. It is taken for the end of the input exactly where it gave none
 pub record Reads (session : Session) (kept : List ℕ) (remaining : Option (List ℕ)) (s : State) (input : List ℕ) (remaining' : Option (List ℕ)) : Type 0 where
   pub more : List ℕ
   pub same : s.session ≡ session
@@ -42,4 +42,5 @@ pub record Reads (session : Session) (kept : List ℕ) (remaining : Option (List
   pub hand : at_hand s input ≡ kept ++ more
   pub consumes : Consumes remaining remaining' more
   pub none : s.last ≡ true → more ≡ []
+  pub some : s.last ≡ false → more ≡ [] → ⊥
   pub ended : s.last ≡ true → length kept < length input → IsAtEnd remaining'

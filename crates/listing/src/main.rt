@@ -49,7 +49,7 @@ fn main(rt: HostRuntime) -> anyhow::Result<()> {
     Ok(())
 }
 
-// Writes the listing of all that a reader gives, and answers whether it got to the end.
+// Writes the listing of all that a reader gives. Answers true only where it got to the end.
 pub fn list_recording<R: Read, W: Write>(reader: &mut R, writer: &mut W) -> Result<bool, Failure>
     ensures { IfOk result (λ whole. IsTrue whole → IfSome (R.remaining reader.old) (λ xs. Appends (W.contents writer.old) (W.contents writer.new) (whole_listing xs))) }
 {
@@ -82,7 +82,8 @@ fn write<W: Write>(writer: &mut W, bytes: &[u8]) -> Result<(), Failure>
 }
 
 // Lists all of the input. A proved loop has to end, and nothing says that the input does: so the loop counts its turns, up to a
-// number that no run uses up. Answers whether the listing is whole. What the buffers hold then is not said.
+// number that no run uses up. Answers true only where the listing is whole. What the buffers hold then is not
+// said.
 fn list_all<R: Read, W: Write>(
     reader: &mut R,
     writer: &mut W,
