@@ -1,13 +1,12 @@
 pub mod States
 pub mod Turns
 pub mod Joins
-pub mod Settled
 pub mod CallSteps
-pub mod Advances
 pub mod Refusals
 pub mod Broken
 pub mod Demand3
 pub mod Reached
+pub mod Settled
 pub mod OneMessage
 pub mod Examples
 pub mod OldFault

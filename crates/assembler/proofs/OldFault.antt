@@ -5,14 +5,14 @@ use mathlib.Core.Path.{◌≡◌, refl}
 use mathlib.Core.Bool.{Bool, true, false}
 use mathlib.Core.List.{List, [], ◌∷◌}
 use lib.Dec.{lit<}
-use Rattle.bits.specs.Outcome.{gives}
+use Rattle.std.specs.Prelude.{Ok, Err}
+use Rattle.refusal.specs.declared.Refusal.TheVariants.{OutOfTurn}
+use Rattle.report.specs.declared.Unreadable.TheVariants.{Refused}
 use Rattle.word.specs.declared.Head.{Head}
 use Rattle.word.specs.Samples.{single101, head101, first401, later401, head401}
 use Rattle.content.specs.Stored.{filled}
 use Rattle.report.specs.declared.Report.{Report}
-use Rattle.report.specs.declared.Refusal.TheVariants.{Plain}
 use Rattle.report.specs.declared.Form.TheVariants.{Multi}
-use Rattle.report.specs.Report.{single_report}
 use Rattle.report.specs.Read.{read_report}
 use Rattle.report.specs.Samples.{report101, report401}
 use Rattle.transmission.specs.Message.{Message, WellFormed, end, alone, joined}
@@ -20,9 +20,9 @@ use Rattle.transmission.proofs.Samples.{computing as transmitting}
 use Rattle.transmission.proofs.FewLost.{few-lost}
 use Rattle.transmission.proofs.Spacing.{by_test}
 use Rattle.assembler.specs.declared.Assembler.TheVariants.{Empty}
-use Rattle.assembler.specs.declared.Answer.TheVariants.{Nothing, Refused}
-use Rattle.assembler.specs.Reading.{numbered}
-use Rattle.assembler.specs.Answers.{with_report, without_report}
+use Rattle.assembler.specs.declared.Answer.TheVariants.{Nothing}
+use Rattle.assembler.specs.Reading.{rules}
+use Rattle.assembler.specs.Answers.{leaving, reporting}
 use Rattle.assembler.specs.Calls.{calls, reports_of}
 use Rattle.assembler.specs.Samples.{opened401}
 use Rattle.assembler.proofs.Examples.{computing}
@@ -52,7 +52,7 @@ abbrev heard : List ℕ
 heard = first401 ∷ single101 ∷ 0x0240A00000 ∷ []
 
 abbrev Formed : Message Report → Type 0
-Formed m = WellFormed single_report (numbered read_report) m.groups m.report
+Formed m = WellFormed (rules read_report) m.groups m.report
 
 formed_closure : Formed closure
 unfolding computing
@@ -72,16 +72,16 @@ unfolding transmitting
 no_closure = demand3 read_report sent heard (formed_closure, (formed_other false, (formed_other false, (formed_other true, (formed_other false, (formed_other false, (formed_elsewhere, tt))))))) (by_test 5 sent refl) (few-lost 5 sent (lit< tt)) refl
 
 -- call by call: nothing yet; the report of the single word, which drops the open message; refusal 5
-pub call_by_call : calls read_report Empty heard ≡ without_report opened401 Nothing ∷ with_report report101 ∷ without_report Empty (Refused (Plain 5)) ∷ []
+pub call_by_call : calls read_report Empty heard ≡ leaving opened401 (Ok Nothing) ∷ reporting report101 ∷ leaving Empty (Err (Refused OutOfTurn)) ∷ []
 unfolding computing
 call_by_call = refl
 
 -- the closure's head with the other message's tail reads as a report like any other: its content does not give the fault away
-pub looks_right : read_report head401 (0x0A00000 ∷ []) ≡ gives (lasting head401 5)
+pub looks_right : read_report head401 (0x0A00000 ∷ []) ≡ Ok (lasting head401 5)
 unfolding computing
 looks_right = refl
 
 -- and where no word between the two is heard the calls cannot tell either: such a loss holds five messages
-pub nothing_between : calls read_report Empty (first401 ∷ 0x0240A00000 ∷ []) ≡ without_report opened401 Nothing ∷ with_report (lasting head401 5) ∷ []
+pub nothing_between : calls read_report Empty (first401 ∷ 0x0240A00000 ∷ []) ≡ leaving opened401 (Ok Nothing) ∷ reporting (lasting head401 5) ∷ []
 unfolding computing
 nothing_between = refl

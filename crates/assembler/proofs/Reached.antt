@@ -5,7 +5,7 @@ use mathlib.Core.Bool.{true}
 use Rattle.transmission.proofs.Reached as abstract
 use Rattle.assembler.specs.declared.Assembler.{Assembler}
 use Rattle.assembler.specs.declared.Assembler.TheVariants.{Empty}
-use Rattle.assembler.specs.Reading.{Reads, single_reads, multi_reads}
+use Rattle.assembler.specs.Reading.{Reads, rules}
 use Rattle.assembler.specs.State.{state_of, assembler_of}
 use Rattle.assembler.specs.Fits.{fits}
 use Rattle.assembler.specs.Calls.{after, Reached}
@@ -17,7 +17,7 @@ pub reached : (read : Reads) (a : Assembler) → fits a ≡ true ↔ Reached rea
 unfolding fits state_of
 reached read a = (
   λ e.
-      let w = (abstract.reached single_reads (multi_reads read) (state_of a)).0 (state_reachable a e) in
+      let w = (abstract.reached (rules read) (state_of a)).0 (state_reachable a e) in
       by_words read Empty a w.0
       (sym (assembler_state (after read Empty w.0) (after-fits read w.0 Empty refl)) ∙ ap assembler_of (same_after read w.0 Empty refl ∙ w.1) ∙ assembler_state a e),
   λ w. subst (λ (b : Assembler). fits b ≡ true) w.2 (after-fits read w.0 Empty refl),

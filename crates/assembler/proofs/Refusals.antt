@@ -8,15 +8,16 @@ use borrow.Author.Tests.{ltb-true, ltb-false, le-leb}
 use Rattle.bits.proofs.Choice.{passed_over}
 use Rattle.word.specs.Format.{limit}
 use Rattle.word.specs.Kind.{kind_of}
-use Rattle.report.specs.declared.Refusal.TheVariants.{Plain}
+use Rattle.std.specs.Prelude.{Err}
+use Rattle.refusal.specs.declared.Refusal.TheVariants.{Unfit}
+use Rattle.report.specs.declared.Unreadable.TheVariants.{Refused}
 use Rattle.transmission.specs.Step.{step_by, step}
 use Rattle.transmission.specs.Demand3.{All}
 use Rattle.assembler.specs.declared.Assembler.{Assembler}
-use Rattle.assembler.specs.declared.Answer.TheVariants.{Refused}
 use Rattle.assembler.specs.declared.Step.{Step}
 use Rattle.assembler.specs.Reading.{Reads}
 use Rattle.assembler.specs.Fits.{fits}
-use Rattle.assembler.specs.Answers.{answer_of, report_in, without_report}
+use Rattle.assembler.specs.Answers.{leaving}
 use Rattle.assembler.specs.Step.{step_of}
 use Rattle.assembler.specs.Calls.{after}
 use Rattle.assembler.proofs.CallSteps.{kept}
@@ -37,18 +38,18 @@ are_words (n ∷ words) = by_size (ltb n limit) refl (are_words words)
 
 module _ (read : Reads) where
   -- a state that no calls reach
-  pub unreached_refused : (a : Assembler) (n : ℕ) → fits a ≡ false → step_of read a n ≡ without_report a (Refused (Plain 9))
+  pub unreached_refused : (a : Assembler) (n : ℕ) → fits a ≡ false → step_of read a n ≡ leaving a (Err (Refused Unfit))
   unfolding step_of
   unreached_refused a n e = passed_over _ _ _ e
 
   -- a number of 2^37 or more, from any state
-  pub no_word-refused : (a : Assembler) (n : ℕ) → limit ≤ n → step_of read a n ≡ without_report a (Refused (Plain 9))
-  unfolding step_of step step_by kind_of answer_of report_in
+  pub no_word-refused : (a : Assembler) (n : ℕ) → limit ≤ n → step_of read a n ≡ leaving a (Err (Refused Unfit))
+  unfolding step_of step step_by kind_of
   no_word-refused a n h = by_state (fits a) refl
     where
-      by_state : (b : Bool) → fits a ≡ b → step_of read a n ≡ without_report a (Refused (Plain 9))
+      by_state : (b : Bool) → fits a ≡ b → step_of read a n ≡ leaving a (Err (Refused Unfit))
       by_state false e = unreached_refused a n e
-      by_state true e = rw (e, le-leb limit n h) (sym (kept a e (Refused (Plain 9))))
+      by_state true e = rw (e, le-leb limit n h) (sym (kept a e (Err (Refused Unfit))))
 
   only_words : (words : List ℕ) (a : Assembler) → after read a (words_among words) ≡ after read a words
   unfolding words_among after

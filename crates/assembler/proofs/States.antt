@@ -55,9 +55,9 @@ opened p e =
     }
 
 -- the test of the count, by whether there is a later group
-pub none-fit : (count gsi : ℕ) → count ≡ 0 → count_fits count gsi ≡ eqb gsi 0
+pub none_fit : (count gsi : ℕ) → count ≡ 0 → count_fits count gsi ≡ eqb gsi 0
 unfolding count_fits
-none-fit count gsi e = rw e
+none_fit count gsi e = rw e
 
 pub some_fit : (count gsi : ℕ) → (count ≡ 0 → ⊥) → count_fits count gsi ≡ leb 1 gsi && leb (count + gsi) 4
 unfolding count_fits

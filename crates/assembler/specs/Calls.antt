@@ -1,7 +1,8 @@
 -- A list of calls, the state handed on from each to the next, and the reports among what they give back.
-use Rattle.std.specs.Prelude.{ℕ, ◌<◌, ◌≡◌, List, [], ◌∷◌}
+use Rattle.std.specs.Prelude.{ℕ, ◌<◌, ◌≡◌, List, [], ◌∷◌, Result, Ok, Err}
 use Rattle.word.specs.Format.{limit}
 use Rattle.report.specs.declared.Report.{Report}
+use Rattle.report.specs.declared.Unreadable.{Unreadable}
 use Rattle.transmission.specs.Demand3.{All}
 use Rattle.assembler.specs.declared.Assembler.{Assembler}
 use Rattle.assembler.specs.declared.Assembler.TheVariants.{Empty}
@@ -26,14 +27,14 @@ module _ (read : Reads) where
   abbrev pub Reached : Assembler → Type 0
   Reached a = (words : List ℕ) × All (λ n. n < limit) words × (after Empty words ≡ a)
 
--- the report beside an answer that says there is one, before others
-unfoldable pub report_then : Answer → Report → List Report → List Report
-report_then answer.Nothing r rs = rs
-report_then answer.Report r rs = r ∷ rs
-report_then (answer.Tuning n) r rs = rs
-report_then (answer.Administration n) r rs = rs
-report_then (answer.Refused x) r rs = rs
+-- a report, if the answer is one, before others
+unfoldable pub report_then : Result Answer Unreadable → List Report → List Report
+report_then (Ok answer.Nothing) rs = rs
+report_then (Ok (answer.Report r)) rs = r ∷ rs
+report_then (Ok (answer.Tuning n)) rs = rs
+report_then (Ok (answer.Administration n)) rs = rs
+report_then (Err e) rs = rs
 
 unfoldable pub reports_of : List Step → List Report
 reports_of [] = []
-reports_of (s ∷ steps) = report_then s.answer s.report (reports_of steps)
+reports_of (s ∷ steps) = report_then s.answer (reports_of steps)

@@ -1,13 +1,13 @@
-// A call without its report: what a word does to the state, for those who only test words. `step` then has one caller among the calls for C,
-// and is compiled into it.
-ghost use Rattle.std.specs.Prelude.{◌≡◌, true, [], ◌∷◌, ◌++◌};
+// A call without its report: what a word does to the state, for those who only test words. It is not written over `step`, which then has one
+// caller among the calls for C and is compiled into it: over `step` each word takes a third longer, and so does one generic call for both.
+ghost use Rattle.std.specs.Prelude.{◌≡◌, true, is_ok, [], ◌∷◌, ◌++◌};
 ghost use Rattle.report.specs.Read.{read_report};
 ghost use Rattle.transmission.specs.Step.{step_by, later as Step·later};
-ghost use Rattle.assembler.specs.Reading.{single_reads, multi_reads};
+ghost use Rattle.assembler.specs.Reading.{rules};
 ghost use Rattle.assembler.specs.State.{state_of, contents_of};
 ghost use Rattle.assembler.specs.Fits.{partial_fits, fits};
 ghost use Rattle.assembler.specs.Answers.{given};
-ghost use Rattle.assembler.specs.Advance.{is_read, advance_of, advanced as Advance·advanced};
+ghost use Rattle.assembler.specs.Advance.{advance_of};
 ghost use Rattle.assembler.specs.Step.{step_of};
 
 use crate::join::read_whole;
@@ -16,6 +16,7 @@ use word::Word;
 
 impl Assembler {
     // The state after a word and whether the word is taken, as `step` has them.
+    #[tactic(auto, unfolding(crate::specs::Step::step_of, transmission::specs::Step::step))]
     pub fn advance(self, word: u64) -> Advance
         ensures { result ≡ advance_of (step_of read_report self word) }
     {
@@ -27,9 +28,10 @@ impl Assembler {
     }
 
     // By the kind of the word.
+    #[tactic(auto, using(crate::proofs::States::assembler_state), unfolding(transmission::specs::Step::step_by, crate::specs::State::assembler_of, crate::specs::Answers::answer_of))]
     fn advance_by(self, word: Word) -> Advance
         requires { fits self ≡ true }
-        ensures { result ≡ advance_of (given (step_by single_reads (multi_reads read_report) (state_of self) word)) }
+        ensures { result ≡ advance_of (given (step_by (rules read_report) (state_of self) word)) }
     {
         match word {
             Word::Single { .. } => advanced(Assembler::Empty, true),
@@ -51,9 +53,10 @@ impl Assembler {
     }
 
     // By a later group.
+    #[tactic(auto, unfolding(crate::specs::Fits::fits, transmission::specs::Step::later, crate::specs::State::state_of, crate::specs::State::assembler_of, crate::specs::Answers::answer_of))]
     fn advance_later(self, ci: u8, second: u8, gsi: u8, content: u32) -> Advance
         requires { fits self ≡ true }
-        ensures { result ≡ advance_of (given (Step·later (multi_reads read_report) (state_of self) ci second gsi content)) }
+        ensures { result ≡ advance_of (given (Step·later (rules read_report) (state_of self) ci second gsi content)) }
     {
         match self {
             Assembler::Empty => advanced(self, false),
@@ -63,13 +66,14 @@ impl Assembler {
 }
 
 // By a later group while a message is open.
+#[tactic(auto, using(crate::proofs::Turns::last_group, crate::proofs::Turns::another_group, crate::proofs::Turns::stray_group), unfolding(transmission::specs::Step::completed, crate::specs::State::assembler_of, crate::specs::Answers::answer_of))]
 fn advance_open(p: Partial, ci: u8, second: u8, gsi: u8, content: u32) -> Advance
     requires { partial_fits p ≡ true }
-    ensures { result ≡ advance_of (given (Step·later (multi_reads read_report) (state_of (Assembler.Started p)) ci second gsi content)) }
+    ensures { result ≡ advance_of (given (Step·later (rules read_report) (state_of (Assembler.Started p)) ci second gsi content)) }
 {
     if (p.ci == ci) & p.in_turn(second, gsi) {
         if gsi == 0 {
-            advanced(Assembler::Empty, reads(p, content))
+            advanced(Assembler::Empty, read_whole(p, content).is_ok())
         } else {
             advanced(Assembler::Started(p.extended(gsi, content)), true)
         }
@@ -78,21 +82,8 @@ fn advance_open(p: Partial, ci: u8, second: u8, gsi: u8, content: u32) -> Advanc
     }
 }
 
-// Whether the content of an open message and of its last group is read.
-fn reads(p: Partial, content: u32) -> bool
-    requires { partial_fits p ≡ true }
-    ensures { result ≡ is_read (read_report p.head (contents_of p ++ content ∷ [])) }
-{
-    let reading = read_whole(p, content);
-    let answer = reading.answer;
-    match answer {
-        report::Answer::Read => true,
-        report::Answer::Refused(_) => false,
-    }
-}
-
 fn advanced(next: Assembler, taken: bool) -> Advance
-    ensures { result ≡ Advance·advanced next taken }
+    ensures { result ≡ record { next = next; taken = taken } }
 {
     Advance { next, taken }
 }

@@ -14,6 +14,7 @@ impl Assembler {
     pub const LATER: usize = 4;
 
     // Whether some calls lead from the empty state to this one.
+    #[tactic(auto, unfolding(crate::specs::Fits::fits))]
     pub fn fits(self) -> bool
         ensures { result ≡ Fits·fits self }
     {
@@ -25,6 +26,7 @@ impl Assembler {
 }
 
 // Whether calls reach the open message.
+#[tactic(auto, unfolding(crate::specs::Fits::partial_fits))]
 fn partial_fits(p: Partial) -> bool
     ensures { result ≡ partial_fits p }
 {
@@ -36,6 +38,7 @@ fn partial_fits(p: Partial) -> bool
 }
 
 // Whether so many later groups go with the GSI of the last.
+#[tactic(auto, using(crate::proofs::States::none_fit, crate::proofs::States::some_fit))]
 fn count_fits(count: u8, gsi: u8) -> bool
     ensures { result ≡ count_fits count gsi }
 {
@@ -47,6 +50,7 @@ fn count_fits(count: u8, gsi: u8) -> bool
 }
 
 // Whether the content at a position is one of 28 bits, or zero where the position is not in use.
+#[tactic(auto, unfolding(crate::specs::Fits::content_fits))]
 fn content_fits(count: u8, position: u8, content: u32) -> bool
     ensures { result ≡ content_fits count position content }
 {

@@ -3,19 +3,19 @@ ghost use Rattle.std.specs.Prelude.{◌≡◌, true, [], ◌∷◌, ◌++◌, �
 ghost use Rattle.bits.specs.Fields.{flat};
 ghost use Rattle.content.specs.Halves.{bits_of};
 ghost use Rattle.content.specs.Packing.{group_bits};
-ghost use Rattle.report.specs.Read.{read_report, outcome_of};
+ghost use Rattle.report.specs.Read.{read_report};
 ghost use Rattle.assembler.specs.State.{contents_of};
 ghost use Rattle.assembler.specs.Fits.{partial_fits};
 ghost use Rattle.assembler.specs.Joining.{put_before};
 
 use crate::Partial;
 use content::content::Content;
-use report::{MessageReading, Report};
+use report::{Report, Unreadable};
 
 // The message that a last group completes, read.
-pub(crate) fn read_whole(p: Partial, content: u32) -> MessageReading
+pub(crate) fn read_whole(p: Partial, content: u32) -> Result<Report, Unreadable>
     requires { partial_fits p ≡ true }
-    ensures { result ≡ outcome_of (read_report p.head (contents_of p ++ content ∷ [])) }
+    ensures { result ≡ read_report p.head (contents_of p ++ content ∷ []) }
 {
     let bits = joined(p, content);
     Report::multi(p.head, bits, Content::GROUP * (p.count as usize + 1))
@@ -33,6 +33,7 @@ fn joined(p: Partial, content: u32) -> Content
 }
 
 // The content at a position put before others, if the position is in use.
+#[tactic(auto, unfolding(crate::specs::Joining::group_before, crate::specs::Joining::put_before))]
 fn before(count: u8, position: u8, content: u32, others: Content) -> Content
     ensures { result ≡ put_before count position content others }
 {

@@ -7,11 +7,11 @@ mod fits;
 mod join;
 mod turn;
 
-use report::{Refusal, Report};
+use report::{Report, Unreadable};
 use word::Head;
 
 // What lasts from one call to the next.
-#[derive(Clone, Copy)]
+#[derive(Clone, Copy, PartialEq, Eq)]
 pub enum Assembler {
     Empty,
     // A message is open.
@@ -21,7 +21,7 @@ pub enum Assembler {
 // An open message: its first group's continuity index and head, the GSI of the last later group taken (0 while there is none), and how
 // many later groups were taken with their contents in order. Unused contents are zero; a fourth later group always completes.
 #[repr(C)]
-#[derive(Clone, Copy)]
+#[derive(Clone, Copy, Default, PartialEq, Eq)]
 pub struct Partial {
     pub ci: u8,
     pub head: Head,
@@ -32,27 +32,23 @@ pub struct Partial {
     pub third: u32,
 }
 
-// What a call answers.
+// What a call answers where it refuses nothing.
 #[derive(Clone, Copy)]
 pub enum Answer {
     // Nothing yet.
     Nothing,
-    // A report, beside the answer.
-    Report,
+    Report(Report),
     // A tuning word, handed on whole.
     Tuning(u64),
     // An administration word, handed on whole.
     Administration(u64),
-    // A refusal: its number, and where content breaks the place.
-    Refused(Refusal),
 }
 
-// The next state and the answer, with the report beside it: blank where there is none.
+// The next state and the answer, or why the word or the message that it completes is refused.
 #[derive(Clone, Copy)]
 pub struct Step {
     pub next: Assembler,
-    pub answer: Answer,
-    pub report: Report,
+    pub answer: Result<Answer, Unreadable>,
 }
 
 // The next state, and whether the word is taken.

@@ -9,21 +9,19 @@ use word::Head;
 
 impl Partial {
     // A message of which only the first group is there.
+    #[tactic(auto, unfolding(crate::specs::State::partial_of))]
     pub(crate) fn opened(ci: u8, head: Head) -> Self
         ensures { result ≡ partial_of ci head 0 [] }
     {
         Partial {
             ci,
             head,
-            gsi: 0,
-            count: 0,
-            first: 0,
-            second: 0,
-            third: 0,
+            ..Partial::default()
         }
     }
 
     // Whether a later group with this mark and GSI comes next.
+    #[tactic(auto, using(crate::proofs::Turns::first_turn, crate::proofs::Turns::next_turn))]
     pub(crate) fn in_turn(self, second: u8, gsi: u8) -> bool
         ensures { result ≡ in_turn self.gsi (contents_of self) second gsi }
     {

@@ -1,5 +1,4 @@
 pub mod Choice
-pub mod Checks
 pub mod Value
 pub mod Stretch
 pub mod Fields
@@ -7,6 +6,4 @@ pub mod Formats
 pub mod Loading
 pub mod Replacing
 pub mod InBytes
-pub mod Runs
 pub mod Outcomes
-pub mod Writers

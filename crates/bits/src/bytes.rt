@@ -1,5 +1,5 @@
-// A short slice of bytes as one number, and back; and a slice filled.
-ghost use Rattle.std.specs.Prelude.{◌≡◌, ◌*◌, ◌≤◌, ◌<◌, ◌^◌, length, replicate};
+// A short slice of bytes as one number, and back.
+ghost use Rattle.std.specs.Prelude.{◌≡◌, ◌*◌, ◌≤◌, ◌<◌, ◌^◌, length};
 ghost use Rattle.bits.specs.Bits.{bits, val};
 ghost use Rattle.bits.specs.Fields.{flat, words};
 
@@ -22,10 +22,8 @@ fn fold(s: &[u8]) -> u64
     ensures { result ≡ val (flat 8 s.now) }
 {
     let mut x = 0u64;
-    let mut i = 0;
-    while i < s.len() {
-        x = x * 256 + wide(s[i]);
-        i += 1;
+    for b in s {
+        x = x * 256 + u64::from(*b);
     }
     x
 }
@@ -35,29 +33,10 @@ pub fn store(s: &mut [u8], v: u64)
     ensures { s.new ≡ words 8 (length s.old) (bits (length s.old * 8) v) }
 {
     let mut rest = v;
-    let mut i = s.len();
-    while 0 < i {
-        i -= 1;
+    for i in (0..s.len()).rev() {
         s[i] = (rest % 256) as u8;
-        rest = rest / 256;
+        rest /= 256;
     }
-}
-
-// Sets every byte to v.
-pub fn fill(s: &mut [u8], v: u8)
-    ensures { s.new ≡ replicate (length s.old) v }
-{
-    let mut i = 0;
-    while i < s.len() {
-        s[i] = v;
-        i += 1;
-    }
-}
-
-fn wide(b: u8) -> u64
-    ensures { result ≡ b }
-{
-    b as u64
 }
 
 // A power of two that a u64 holds.

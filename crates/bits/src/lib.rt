@@ -7,10 +7,3 @@ pub mod bytes;
 pub mod field;
 pub mod run;
 pub mod zero;
-
-// What a writer answers: how many cells of the lent buffer it filled, or the refusal's number.
-#[derive(Clone, Copy)]
-pub enum Writing {
-    Written(usize),
-    Refused(u8),
-}

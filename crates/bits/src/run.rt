@@ -12,12 +12,8 @@ pub fn words_at(s: &[u8], at: usize, w: usize, out: &mut [u64])
     requires { (w ≤ 56) × (at + length out.old * w ≤ length s.now * 8) × (length s.now < 2 ^ 61) }
     ensures { out.new ≡ words w (length out.old) (drop at (flat 8 s.now)) }
 {
-    let mut p = at;
-    let mut i = 0;
-    while i < out.len() {
-        out[i] = word_at(s, p, w);
-        p += w;
-        i += 1;
+    for (i, x) in out.iter_mut().enumerate() {
+        *x = word_at(s, at + i * w, w);
     }
 }
 
@@ -26,8 +22,8 @@ fn word_at(s: &[u8], at: usize, w: usize) -> u64
     requires { (w ≤ 56) × (at + w ≤ length s.now * 8) }
     ensures { result ≡ val (stretch at w (flat 8 s.now)) }
 {
-    if (8 <= s.len()) & (0 < w) {
-        in_eight(s, least(at / 8, s.len() - 8), at, w)
+    if 8 <= s.len() && 0 < w {
+        in_eight(s, (at / 8).min(s.len() - 8), at, w)
     } else {
         bits_at(s, at, w)
     }
@@ -43,22 +39,12 @@ fn in_eight(s: &[u8], from: usize, at: usize, w: usize) -> u64
     (load(&s[from..to]) >> k) % pow2(w)
 }
 
-fn least(a: usize, b: usize) -> usize
-    ensures { result ≡ b - (b - a) }
-{
-    if a < b { a } else { b }
-}
-
 // Puts the low w bits of each number of ws from bit at on; no other bit changes.
 pub fn put_words(s: &mut [u8], at: usize, w: usize, ws: &[u64])
     requires { (w ≤ 56) × (at + length ws.now * w ≤ length s.old * 8) × (length s.old < 2 ^ 61) }
     ensures { flat 8 s.new ≡ overlay at (flat w ws.now) (flat 8 s.old) }
 {
-    let mut p = at;
-    let mut i = 0;
-    while i < ws.len() {
-        put_bits(s, p, w, ws[i]);
-        p += w;
-        i += 1;
+    for (i, x) in ws.iter().enumerate() {
+        put_bits(s, at + i * w, w, *x);
     }
 }

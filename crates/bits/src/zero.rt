@@ -11,14 +11,10 @@ pub fn zeros_at(s: &[u8], at: usize, n: usize) -> bool
     requires { (at + n ≤ length s.now * 8) × (length s.now < 2 ^ 61) }
     ensures { result ≡ all_zero (stretch at n (flat 8 s.now)) }
 {
-    let mut p = at;
-    let mut left = n;
-    while 56 < left {
-        if bits_at(s, p, 56) != 0 {
+    for k in 0..n / 56 {
+        if bits_at(s, at + k * 56, 56) != 0 {
             return false;
         }
-        p += 56;
-        left -= 56;
     }
-    bits_at(s, p, left) == 0
+    bits_at(s, at + n / 56 * 56, n % 56) == 0
 }

@@ -1,2 +1,2 @@
-pub mod UnitsBack
 pub mod Places
+pub mod UnitsBack

@@ -1,8 +1,10 @@
 -- What the calls on RDS groups, FIGs, blocks and data units answer (include/alertc.h): on a refusal its number, and 0 elsewhere.
-use Rattle.std.specs.Prelude.{ℕ, cond, List}
-use Rattle.rds.specs.declared.Reading.{Reading as Group-as-Reading}
+use Rattle.std.specs.Prelude.{ℕ, List, Option, Result, Ok, Err}
+use Rattle.refusal.specs.declared.Refusal.{Refusal}
+use Rattle.refusal.specs.Number.{number, refusal_in}
+use Rattle.rds.specs.declared.Group.{Group}
 use Rattle.rds.specs.Read as group
-use Rattle.rds.specs.declared.Answer.{Answer}
+use Rattle.rds.specs.declared.Run.{Run}
 use Rattle.rds.specs.declared.Step.{Step}
 use Rattle.rds.specs.Repeat as repeat
 use Rattle.fig.specs.declared.Reading.{Reading as Fig-as-Reading}
@@ -12,33 +14,37 @@ use Rattle.fib.specs.Answers as fib
 use Rattle.drm.specs.declared.Reading.{Reading as Unit-as-Reading}
 use Rattle.drm.specs.Read as unit
 use Rattle.c_values.specs.declared.runs.PlainRun.{PlainRun}
-use Rattle.c_values.specs.Runs.{run_fits, run_from, run_of}
+use Rattle.c_values.specs.Runs.{run_from, run_of}
 use Rattle.c_answers.specs.declared.carriers.GroupReading.{GroupReading}
 use Rattle.c_answers.specs.declared.carriers.Received.{Received}
 use Rattle.c_answers.specs.declared.carriers.FigReading.{FigReading}
 use Rattle.c_answers.specs.declared.carriers.FibReading.{FibReading}
 use Rattle.c_answers.specs.declared.carriers.UnitReading.{UnitReading}
 
-abbrev pub group_reading : Group-as-Reading → GroupReading
-group_reading r = record { group = group.group_in r; refusal = group.refusal_in r }
+abbrev pub group_reading : Result Group Refusal → GroupReading
+group_reading r = record { group = group.group_in r; refusal = refusal_in r }
 
 -- a run, and what the answer tells
-unfoldable pub received_with : PlainRun → Answer → Received
-received_with r a = record { run = r; word = repeat.valid_word a; valid = repeat.valid_in a; refusal = repeat.refusal_in a }
+abbrev pub received_with : PlainRun → Result (Option ℕ) Refusal → Received
+received_with r a = record { run = r; word = repeat.valid_word a; valid = repeat.valid_in a; refusal = refusal_in a }
 
 abbrev pub received_by : Step → Received
 received_by s = received_with (run_of s.run) s.answer
 
 -- a run that no calls give is refused (9), and stays
-abbrev pub received : PlainRun → List ℕ → Received
-received r bytes = cond (run_fits r) (received_by (repeat.received (run_from r) bytes)) (record { run = r; word = 0; valid = 0; refusal = 9 })
+abbrev pub received_after : PlainRun → Result Run Refusal → List ℕ → Received
+received_after r (Ok run) bytes = received_by (repeat.received run bytes)
+received_after r (Err refusal) bytes = record { run = r; word = 0; valid = 0; refusal = number refusal }
 
-abbrev pub fig_reading : Fig-as-Reading → FigReading
-fig_reading r = record { count = fig.count_in r; fig = fig.fig_in r; refusal = fig.refusal_in r }
+abbrev pub received : PlainRun → List ℕ → Received
+received r bytes = received_after r (run_from r) bytes
+
+abbrev pub fig_reading : Result Fig-as-Reading Refusal → FigReading
+fig_reading r = record { count = fig.count_in r; fig = fig.fig_in r; refusal = refusal_in r }
 
 -- a FIG's refusal is no refusal of the block
-abbrev pub fib_reading : Fib-as-Reading → FibReading
-fib_reading r = record { count = fib.count_in r; begin = fib.begin_in r; stop = fib.stop_in r; refusal = fib.refusal_in r }
+abbrev pub fib_reading : Result Fib-as-Reading Refusal → FibReading
+fib_reading r = record { count = fib.count_in r; begin = fib.begin_in r; stop = fib.stop_in r; refusal = refusal_in r }
 
-abbrev pub unit_reading : Unit-as-Reading → UnitReading
-unit_reading r = record { count = unit.count_in r; unit = unit.unit_in r; refusal = unit.refusal_in r }
+abbrev pub unit_reading : Result Unit-as-Reading Refusal → UnitReading
+unit_reading r = record { count = unit.count_in r; unit = unit.unit_in r; refusal = refusal_in r }

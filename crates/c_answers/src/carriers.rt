@@ -1,12 +1,13 @@
 // RDS groups, FIGs, blocks and data units.
 ghost use Rattle.std.specs.Prelude.{◌≡◌};
-ghost use Rattle.rds.specs.Write.{refusal_in};
 ghost use Rattle.c_answers.specs.Carriers.{group_reading, received_by, fig_reading, fib_reading, unit_reading};
 
+use crate::refusals::refusal_in;
 use c_values::runs::PlainRun;
 use drm::DataUnit;
 use fig::Fig;
-use rds::{Answer, Group, Step};
+use rds::{Group, Step};
+use refusal::Refusal;
 
 // A group read.
 #[repr(C)]
@@ -16,32 +17,20 @@ pub struct GroupReading {
     pub refusal: u8,
 }
 
-impl GroupReading {
-    pub fn of(reading: rds::Reading) -> Self
-        ensures { result ≡ group_reading reading }
-    {
-        match reading {
-            rds::Reading::Taken(group) => GroupReading { group, refusal: 0 },
-            rds::Reading::Refused(refusal) => GroupReading {
-                group: Group::new(),
-                refusal,
-            },
-        }
-    }
-}
+impl From<Result<Group, Refusal>> for GroupReading {
+    ghost from_gives = { λ answer told. told ≡ group_reading answer };
 
-pub fn write_refusal(writing: rds::Writing) -> u8
-    ensures { result ≡ refusal_in writing }
-{
-    match writing {
-        rds::Writing::Done => 0,
-        rds::Writing::Refused(n) => n,
+    fn from(answer: Result<Group, Refusal>) -> Self {
+        GroupReading {
+            group: answer.unwrap_or(Group::new()),
+            refusal: refusal_in(answer),
+        }
     }
 }
 
 // The run after a group, on a refusal too; whether the group gave a valid word (1, else 0), and the word.
 #[repr(C)]
-#[derive(Clone, Copy)]
+#[derive(Clone, Copy, Default)]
 pub struct Received {
     pub run: PlainRun,
     pub word: u64,
@@ -49,29 +38,25 @@ pub struct Received {
     pub refusal: u8,
 }
 
-impl Received {
-    pub fn of(step: Step) -> Self
-        ensures { result ≡ received_by step }
-    {
-        let next = step.run;
-        let answer = step.answer;
-        let mut r = Received {
-            run: PlainRun::of(next),
-            word: 0,
-            valid: 0,
-            refusal: 0,
+impl From<Step> for Received {
+    ghost from_gives = { λ step told. told ≡ received_by step };
+
+    fn from(step: Step) -> Self {
+        let none = Received {
+            run: step.run.into(),
+            ..Received::default()
         };
-        match answer {
-            Answer::Nothing => r,
-            Answer::Valid(word) => {
-                r.valid = 1;
-                r.word = word;
-                r
-            }
-            Answer::Refused(n) => {
-                r.refusal = n;
-                r
-            }
+        match step.answer {
+            Ok(None) => none,
+            Ok(Some(word)) => Received {
+                word,
+                valid: 1,
+                ..none
+            },
+            Err(refusal) => Received {
+                refusal: refusal.into(),
+                ..none
+            },
         }
     }
 }
@@ -85,28 +70,26 @@ pub struct FigReading {
     pub refusal: u8,
 }
 
-impl FigReading {
-    pub fn of(reading: fig::Reading) -> Self
-        ensures { result ≡ fig_reading reading }
-    {
-        match reading {
-            fig::Reading::Taken { fig, count } => FigReading {
-                count,
-                fig,
-                refusal: 0,
-            },
-            fig::Reading::Refused(refusal) => FigReading {
-                count: 0,
-                fig: Fig::new(),
-                refusal,
-            },
+impl From<Result<fig::Reading, Refusal>> for FigReading {
+    ghost from_gives = { λ answer told. told ≡ fig_reading answer };
+
+    fn from(answer: Result<fig::Reading, Refusal>) -> Self {
+        let none = fig::Reading {
+            fig: Fig::new(),
+            count: 0,
+        };
+        let reading = answer.unwrap_or(none);
+        FigReading {
+            count: reading.count,
+            fig: reading.fig,
+            refusal: refusal_in(answer),
         }
     }
 }
 
 // How many words of a block were read; of a FIG 5/1 that was refused, the byte at which it begins and its refusal.
 #[repr(C)]
-#[derive(Clone, Copy)]
+#[derive(Clone, Copy, Default)]
 pub struct FibReading {
     pub count: usize,
     pub begin: usize,
@@ -114,28 +97,24 @@ pub struct FibReading {
     pub refusal: u8,
 }
 
-impl FibReading {
-    pub fn of(reading: fib::Reading) -> Self
-        ensures { result ≡ fib_reading reading }
-    {
-        match reading {
-            fib::Reading::Taken(count) => FibReading {
+impl From<Result<fib::Reading, Refusal>> for FibReading {
+    ghost from_gives = { λ answer told. told ≡ fib_reading answer };
+
+    fn from(answer: Result<fib::Reading, Refusal>) -> Self {
+        match answer {
+            Ok(fib::Reading::Whole(count)) => FibReading {
                 count,
-                begin: 0,
-                stop: 0,
-                refusal: 0,
+                ..FibReading::default()
             },
-            fib::Reading::Stopped { fib, refusal } => FibReading {
+            Ok(fib::Reading::Stopped { fib, refusal }) => FibReading {
                 count: fib.count,
                 begin: fib.at,
-                stop: refusal,
+                stop: refusal.into(),
                 refusal: 0,
             },
-            fib::Reading::Refused(refusal) => FibReading {
-                count: 0,
-                begin: 0,
-                stop: 0,
-                refusal,
+            Err(refusal) => FibReading {
+                refusal: refusal.into(),
+                ..FibReading::default()
             },
         }
     }
@@ -150,21 +129,19 @@ pub struct UnitReading {
     pub refusal: u8,
 }
 
-impl UnitReading {
-    pub fn of(reading: drm::Reading) -> Self
-        ensures { result ≡ unit_reading reading }
-    {
-        match reading {
-            drm::Reading::Taken { unit, count } => UnitReading {
-                count,
-                unit,
-                refusal: 0,
-            },
-            drm::Reading::Refused(refusal) => UnitReading {
-                count: 0,
-                unit: DataUnit::new(),
-                refusal,
-            },
+impl From<Result<drm::Reading, Refusal>> for UnitReading {
+    ghost from_gives = { λ answer told. told ≡ unit_reading answer };
+
+    fn from(answer: Result<drm::Reading, Refusal>) -> Self {
+        let none = drm::Reading {
+            unit: DataUnit::new(),
+            count: 0,
+        };
+        let reading = answer.unwrap_or(none);
+        UnitReading {
+            count: reading.count,
+            unit: reading.unit,
+            refusal: refusal_in(answer),
         }
     }
 }

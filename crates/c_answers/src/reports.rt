@@ -1,12 +1,12 @@
 // Reports and the assembler.
 ghost use Rattle.std.specs.Prelude.{◌≡◌};
-ghost use Rattle.c_answers.specs.Reports.{written_by, without_report, step_answer};
+ghost use Rattle.c_answers.specs.Reports.{written_by, step_answer};
 
-use crate::refusals::{NOT_BROKEN, broken_at, number_of};
+use crate::refusals::{NOT_BROKEN, broken_at, number_of, refusal_in};
 use assembler::{Answer, Partial, Step};
-use bits::Writing;
 use c_values::reports::PlainReport;
 use c_values::states::state_of;
+use refusal::Refusal;
 use report::Report;
 
 // How many words or bytes were written into the lent buffer.
@@ -17,13 +17,13 @@ pub struct Written {
     pub refusal: u8,
 }
 
-impl Written {
-    pub fn of(writing: Writing) -> Self
-        ensures { result ≡ written_by writing }
-    {
-        match writing {
-            Writing::Written(count) => Written { count, refusal: 0 },
-            Writing::Refused(refusal) => Written { count: 0, refusal },
+impl From<Result<usize, Refusal>> for Written {
+    ghost from_gives = { λ answer told. told ≡ written_by answer };
+
+    fn from(answer: Result<usize, Refusal>) -> Self {
+        Written {
+            count: answer.unwrap_or(0),
+            refusal: refusal_in(answer),
         }
     }
 }
@@ -41,45 +41,40 @@ pub struct AssemblerAnswer {
     pub broken: u8,
 }
 
-impl AssemblerAnswer {
-    // The report is looked at only where there is one.
-    pub fn of(step: Step) -> Self
-        ensures { result ≡ step_answer step }
-    {
-        let next = step.next;
-        let answer = step.answer;
-        match answer {
-            Answer::Nothing => without_report(state_of(next), 0, 0, 0, NOT_BROKEN),
-            Answer::Report => {
-                let report = step.report;
-                AssemblerAnswer {
-                    report: PlainReport::of(report),
-                    next: state_of(next),
-                    word: 0,
-                    kind: 1,
-                    refusal: 0,
-                    broken: NOT_BROKEN,
-                }
-            }
-            Answer::Tuning(word) => without_report(state_of(next), word, 2, 0, NOT_BROKEN),
-            Answer::Administration(word) => without_report(state_of(next), word, 3, 0, NOT_BROKEN),
-            Answer::Refused(refusal) => {
-                let number = number_of(refusal);
-                without_report(state_of(next), 0, 0, number, broken_at(refusal))
-            }
-        }
-    }
-}
+impl From<Step> for AssemblerAnswer {
+    ghost from_gives = { λ step told. told ≡ step_answer step };
 
-fn without_report(next: Partial, word: u64, kind: u8, refusal: u8, broken: u8) -> AssemblerAnswer
-    ensures { result ≡ without_report next word kind refusal broken }
-{
-    AssemblerAnswer {
-        report: PlainReport::of(Report::new()),
-        next,
-        word,
-        kind,
-        refusal,
-        broken,
+    fn from(step: Step) -> Self {
+        let nothing = AssemblerAnswer {
+            report: Report::new().into(),
+            next: state_of(step.next),
+            word: 0,
+            kind: 0,
+            refusal: 0,
+            broken: NOT_BROKEN,
+        };
+        match step.answer {
+            Ok(Answer::Nothing) => nothing,
+            Ok(Answer::Report(report)) => AssemblerAnswer {
+                report: report.into(),
+                kind: 1,
+                ..nothing
+            },
+            Ok(Answer::Tuning(word)) => AssemblerAnswer {
+                word,
+                kind: 2,
+                ..nothing
+            },
+            Ok(Answer::Administration(word)) => AssemblerAnswer {
+                word,
+                kind: 3,
+                ..nothing
+            },
+            Err(unreadable) => AssemblerAnswer {
+                refusal: number_of(unreadable),
+                broken: broken_at(unreadable),
+                ..nothing
+            },
+        }
     }
 }

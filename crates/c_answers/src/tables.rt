@@ -1,19 +1,21 @@
 // The message table.
 ghost use Rattle.std.specs.Prelude.{◌≡◌};
-ghost use Rattle.record_report.specs.Answers.{used_of, number_of};
-ghost use Rattle.c_answers.specs.Tables.{choice_of, chosen_step, chosen_table, table_answer, renewal_told, broken_at, record_reading, expiry_told};
+ghost use Rattle.c_answers.specs.Tables.{no_choice, chosen_step, chosen_table, table_answer, renewal_told, record_reading, expiry_told};
 
-use crate::refusals::{NOT_BROKEN, broken_at, number_of};
+use crate::refusals::{NOT_BROKEN, broken_at, number_of, refusal_in};
 use c_values::reports::PlainReport;
 use checks::Arrival;
-use clock::{Expiry, Utc};
+use clock::Utc;
 use lent::lent_fit;
 use record::Service;
-use record_report::{Answer as Kept, Reading};
+use record_report::Kept;
+use refusal::Refusal;
+use report::{Report, Unreadable};
 use table::{Answer, Step, Table, WhenFull};
 
-// Takes a report, the choice for a full table given by its number. Another number is refused (9) after the table, catalogue or lives (10)
-// and before all else.
+// Takes a report, the choice for a full table given by its number, 0 or 1. Another number is refused (9) after the table, catalogue or lives
+// (10) and before all else.
+#[tactic(auto, unfolding(crate::specs::Tables::chosen_step, crate::specs::Tables::chosen_table, crate::specs::Tables::choice_of))]
 pub fn take(
     t: &mut [u8],
     catalogue: &[u16],
@@ -26,30 +28,34 @@ pub fn take(
     ensures value { result ≡ chosen_step t.old catalogue.now lives.now last.0 arrival lto choice }
     ensures t_after { t.new ≡ chosen_table t.old catalogue.now lives.now last.0 arrival lto choice }
 {
-    if 1 < choice {
-        return Step {
-            last,
-            answer: Answer::Refused(if lent_fit(t, catalogue, lives) { 9 } else { 10 }),
-        };
-    }
-    Table::take(t, catalogue, lives, last, arrival, lto, when_full(choice))
+    let full = match choice {
+        0 => WhenFull::Drop,
+        1 => WhenFull::Keep,
+        _ => {
+            return Step {
+                last,
+                answer: Err(no_choice(t, catalogue, lives)),
+            };
+        }
+    };
+    Table::take(t, catalogue, lives, last, arrival, lto, full)
 }
 
-// What a full table does, by number.
-fn when_full(choice: u8) -> WhenFull
-    ensures { result ≡ choice_of choice }
+// Why a number that is no choice is refused.
+fn no_choice(t: &[u8], catalogue: &[u16], lives: &[u16]) -> Refusal
+    ensures { result ≡ no_choice t.now catalogue.now lives.now }
 {
-    if choice == 1 {
-        WhenFull::Keep
+    if lent_fit(t, catalogue, lives) {
+        Refusal::Unfit
     } else {
-        WhenFull::Drop
+        Refusal::Malformed
     }
 }
 
 // How many records expired and matched, whether the report was stored (1, else 0), its place, and whether the record that stood there was
 // dropped for it (1, else 0).
 #[repr(C)]
-#[derive(Clone, Copy)]
+#[derive(Clone, Copy, Default)]
 pub struct TableAnswer {
     pub expired: usize,
     pub matched: usize,
@@ -59,47 +65,39 @@ pub struct TableAnswer {
     pub refusal: u8,
 }
 
-impl TableAnswer {
-    pub fn of(answer: Answer) -> Self
-        ensures { result ≡ table_answer answer }
-    {
-        let mut r = TableAnswer {
-            expired: 0,
-            matched: 0,
-            place: 0,
-            stored: 0,
-            dropped: 0,
-            refusal: 0,
-        };
+impl From<Result<Answer, Refusal>> for TableAnswer {
+    ghost from_gives = { λ answer told. told ≡ table_answer answer };
+
+    fn from(answer: Result<Answer, Refusal>) -> Self {
+        let none = TableAnswer::default();
+        let kept = TableAnswer { stored: 1, ..none };
         match answer {
-            Answer::Freed { expired, matched } => {
-                r.expired = expired;
-                r.matched = matched;
-                r
-            }
-            Answer::Stored {
+            Ok(Answer::Freed { expired, matched }) => TableAnswer {
+                expired,
+                matched,
+                ..none
+            },
+            Ok(
+                Answer::Stored {
+                    expired,
+                    matched,
+                    place,
+                },
+            ) => TableAnswer {
                 expired,
                 matched,
                 place,
-            } => {
-                r.expired = expired;
-                r.matched = matched;
-                r.place = place;
-                r.stored = 1;
-                r
-            }
-            Answer::Dropped { place } => TableAnswer {
-                expired: 0,
-                matched: 0,
-                place,
-                stored: 1,
-                dropped: 1,
-                refusal: 0,
+                ..kept
             },
-            Answer::Refused(n) => {
-                r.refusal = n;
-                r
-            }
+            Ok(Answer::Dropped { place }) => TableAnswer {
+                place,
+                dropped: 1,
+                ..kept
+            },
+            Err(refusal) => TableAnswer {
+                refusal: refusal.into(),
+                ..none
+            },
         }
     }
 }
@@ -112,16 +110,13 @@ pub struct Renewal {
     pub refusal: u8,
 }
 
-impl Renewal {
-    pub fn of(answer: renewal::Answer) -> Self
-        ensures { result ≡ renewal_told answer }
-    {
-        match answer {
-            renewal::Answer::Renewed(used) => Renewal { used, refusal: 0 },
-            renewal::Answer::Refused(number) => Renewal {
-                used: 0,
-                refusal: number,
-            },
+impl From<Result<usize, Refusal>> for Renewal {
+    ghost from_gives = { λ answer told. told ≡ renewal_told answer };
+
+    fn from(used: Result<usize, Refusal>) -> Self {
+        Renewal {
+            used: used.unwrap_or(0),
+            refusal: refusal_in(used),
         }
     }
 }
@@ -138,52 +133,33 @@ pub struct RecordReading {
     pub broken: u8,
 }
 
-impl RecordReading {
-    pub fn of(reading: Reading) -> Self
-        ensures { result ≡ record_reading reading }
-    {
-        let report = reading.report;
-        let service = reading.service;
-        let expiry = reading.expiry;
-        let answer = reading.answer;
-        RecordReading {
-            report: PlainReport::of(report),
-            service,
-            expiry: expiry.0,
-            used: used_in(answer),
-            refusal: refusal_in(answer),
-            broken: broken_in(answer),
+impl From<Result<Option<Kept>, Unreadable>> for RecordReading {
+    ghost from_gives = { λ answer told. told ≡ record_reading answer };
+
+    fn from(answer: Result<Option<Kept>, Unreadable>) -> Self {
+        let free = RecordReading {
+            report: Report::new().into(),
+            service: Service::default(),
+            expiry: 0,
+            used: 0,
+            refusal: 0,
+            broken: NOT_BROKEN,
+        };
+        match answer {
+            Ok(None) => free,
+            Ok(Some(kept)) => RecordReading {
+                report: kept.report.into(),
+                service: kept.service,
+                expiry: kept.expiry.0,
+                used: 1,
+                ..free
+            },
+            Err(unreadable) => RecordReading {
+                refusal: number_of(unreadable),
+                broken: broken_at(unreadable),
+                ..free
+            },
         }
-    }
-}
-
-fn used_in(answer: Kept) -> u8
-    ensures { result ≡ used_of answer }
-{
-    match answer {
-        Kept::Free => 0,
-        Kept::Read => 1,
-        Kept::Refused(_) => 0,
-    }
-}
-
-fn refusal_in(answer: Kept) -> u8
-    ensures { result ≡ number_of answer }
-{
-    match answer {
-        Kept::Free => 0,
-        Kept::Read => 0,
-        Kept::Refused(refusal) => number_of(refusal),
-    }
-}
-
-fn broken_in(answer: Kept) -> u8
-    ensures { result ≡ broken_at answer }
-{
-    match answer {
-        Kept::Free => NOT_BROKEN,
-        Kept::Read => NOT_BROKEN,
-        Kept::Refused(refusal) => broken_at(refusal),
     }
 }
 
@@ -195,19 +171,13 @@ pub struct ExpiryAnswer {
     pub refusal: u8,
 }
 
-impl ExpiryAnswer {
-    pub fn of(answer: Expiry) -> Self
-        ensures { result ≡ expiry_told answer }
-    {
-        match answer {
-            Expiry::At(end) => ExpiryAnswer {
-                minute: end.0,
-                refusal: 0,
-            },
-            Expiry::Refused(n) => ExpiryAnswer {
-                minute: 0,
-                refusal: n,
-            },
+impl From<Result<Utc, Refusal>> for ExpiryAnswer {
+    ghost from_gives = { λ answer told. told ≡ expiry_told answer };
+
+    fn from(end: Result<Utc, Refusal>) -> Self {
+        ExpiryAnswer {
+            minute: end.unwrap_or(Utc(0)).0,
+            refusal: refusal_in(end),
         }
     }
 }

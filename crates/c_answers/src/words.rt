@@ -1,13 +1,15 @@
 // 37-bit words and system words.
 ghost use Rattle.std.specs.Prelude.{◌≡◌};
-ghost use Rattle.word.specs.Kind.{refusal_of};
 ghost use Rattle.c_answers.specs.Words.{word_parsed, word_composed, system_reading, system_written};
 
+use crate::refusals::refusal_in;
 use c_values::systems::SystemFields;
 use c_values::words::WordFields;
-use word::{Composed, Word};
+use refusal::Refusal;
+use system::System;
+use word::Word;
 
-// A word taken apart.
+// A word taken apart; a number that is no word is refused (9).
 #[repr(C)]
 #[derive(Clone, Copy)]
 pub struct WordParsed {
@@ -15,28 +17,17 @@ pub struct WordParsed {
     pub refusal: u8,
 }
 
-impl WordParsed {
-    pub fn of(word: Word) -> Self
-        ensures { result ≡ word_parsed word }
-    {
-        WordParsed {
-            fields: WordFields::of(word),
-            refusal: parse_refusal(word),
-        }
-    }
-}
+impl From<Word> for WordParsed {
+    ghost from_gives = { λ word told. told ≡ word_parsed word };
 
-fn parse_refusal(word: Word) -> u8
-    ensures { result ≡ refusal_of word }
-{
-    match word {
-        Word::Single { .. } => 0,
-        Word::First { .. } => 0,
-        Word::Later { .. } => 0,
-        Word::Tuning(_) => 0,
-        Word::Administration(_) => 0,
-        Word::Index7(_) => 0,
-        Word::Beyond(_) => 9,
+    fn from(word: Word) -> Self {
+        WordParsed {
+            fields: word.into(),
+            refusal: match word {
+                Word::Beyond(_) => Refusal::Unfit.into(),
+                _ => 0,
+            },
+        }
     }
 }
 
@@ -48,13 +39,13 @@ pub struct WordComposed {
     pub refusal: u8,
 }
 
-impl WordComposed {
-    pub fn of(composed: Composed) -> Self
-        ensures { result ≡ word_composed composed }
-    {
-        match composed {
-            Composed::Number(word) => WordComposed { word, refusal: 0 },
-            Composed::Refused(refusal) => WordComposed { word: 0, refusal },
+impl From<Result<u64, Refusal>> for WordComposed {
+    ghost from_gives = { λ answer told. told ≡ word_composed answer };
+
+    fn from(answer: Result<u64, Refusal>) -> Self {
+        WordComposed {
+            word: answer.unwrap_or(0),
+            refusal: refusal_in(answer),
         }
     }
 }
@@ -67,19 +58,16 @@ pub struct SystemReading {
     pub refusal: u8,
 }
 
-impl SystemReading {
-    pub fn of(reading: system::Reading) -> Self
-        ensures { result ≡ system_reading reading }
-    {
-        match reading {
-            system::Reading::Taken(system) => SystemReading {
-                fields: SystemFields::of(system),
-                refusal: 0,
+impl From<Result<System, Refusal>> for SystemReading {
+    ghost from_gives = { λ answer told. told ≡ system_reading answer };
+
+    fn from(answer: Result<System, Refusal>) -> Self {
+        SystemReading {
+            fields: match answer {
+                Ok(system) => system.into(),
+                Err(_) => SystemFields::default(),
             },
-            system::Reading::Refused(refusal) => SystemReading {
-                fields: SystemFields::none(),
-                refusal,
-            },
+            refusal: refusal_in(answer),
         }
     }
 }
@@ -92,13 +80,13 @@ pub struct SystemWritten {
     pub refusal: u8,
 }
 
-impl SystemWritten {
-    pub fn of(writing: system::Writing) -> Self
-        ensures { result ≡ system_written writing }
-    {
-        match writing {
-            system::Writing::Word(word) => SystemWritten { word, refusal: 0 },
-            system::Writing::Refused(refusal) => SystemWritten { word: 0, refusal },
+impl From<Result<u16, Refusal>> for SystemWritten {
+    ghost from_gives = { λ answer told. told ≡ system_written answer };
+
+    fn from(answer: Result<u16, Refusal>) -> Self {
+        SystemWritten {
+            word: answer.unwrap_or(0),
+            refusal: refusal_in(answer),
         }
     }
 }

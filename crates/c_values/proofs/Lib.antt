@@ -2,4 +2,3 @@ pub mod ReportsBack
 pub mod StatesBack
 pub mod RunsBack
 pub mod WordsBack
-pub mod Whose

@@ -1,8 +1,10 @@
 -- System words as C has them (include/alertc.h, "System words").
-use Rattle.std.specs.Prelude.{Bool, cond, ◌&&◌, eqb}
+use Rattle.std.specs.Prelude.{Bool, cond, ◌&&◌, eqb, Result}
+use Rattle.std.specs.Result.{result_unwrap_or}
 use Rattle.system.specs.declared.System.{System}
 use Rattle.system.specs.declared.System.TheVariants.{Table, Service}
 use Rattle.c_values.specs.declared.systems.SystemFields.{SystemFields}
+use Rattle.refusal.specs.declared.Refusal.{Refusal}
 use Rattle.c_values.specs.Whose.{whose}
 
 abbrev pub none : SystemFields
@@ -21,10 +23,14 @@ system_by f =
 
 abbrev pub same : SystemFields → SystemFields → Bool
 same f g =
-    (((((eqb f.variant g.variant && eqb f.ltn g.ltn) && eqb f.afi g.afi) && eqb f.mode g.mode)
-    && (((eqb f.international g.international && eqb f.national g.national) && eqb f.regional g.regional) && eqb f.urban g.urban)))
-    && ((((eqb f.gap g.gap && eqb f.sid g.sid) && eqb f.ta g.ta) && eqb f.tw g.tw) && eqb f.td g.td)
+    eqb f.variant g.variant && (eqb f.ltn g.ltn && (eqb f.afi g.afi && (eqb f.mode g.mode
+    && (eqb f.international g.international && (eqb f.national g.national && (eqb f.regional g.regional && (eqb f.urban g.urban
+    && (eqb f.gap g.gap && (eqb f.sid g.sid && (eqb f.ta g.ta && (eqb f.tw g.tw && eqb f.td g.td)))))))))))
 
--- the system word whose fields these are; where there is none, one that no call takes
-unfoldable pub system_from : SystemFields → System
-system_from f = whose same fields_of f (system_by f) (Service 255 0 0 0 0)
+-- the system word whose fields these are; refused where there is none
+unfoldable pub system_from : SystemFields → Result System Refusal
+system_from f = whose same fields_of f (system_by f)
+
+-- and where there is none, one that no call takes
+abbrev pub system_or_none : SystemFields → System
+system_or_none f = result_unwrap_or (system_from f) (Service 255 0 0 0 0)

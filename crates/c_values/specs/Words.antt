@@ -1,9 +1,11 @@
 -- 37-bit words as C has them (include/alertc.h, "37-bit words").
-use Rattle.std.specs.Prelude.{Bool, cond, ◌&&◌, eqb}
+use Rattle.std.specs.Prelude.{Bool, cond, ◌&&◌, eqb, Result}
+use Rattle.std.specs.Result.{result_unwrap_or}
 use Rattle.word.specs.declared.Head.{Head}
 use Rattle.word.specs.declared.Word.{Word}
 use Rattle.word.specs.declared.Word.TheVariants.{Single, First, Later, Tuning, Administration, Index7, Beyond}
 use Rattle.c_values.specs.declared.words.WordFields.{WordFields}
+use Rattle.refusal.specs.declared.Refusal.{Refusal}
 use Rattle.c_values.specs.Whose.{whose}
 
 abbrev pub no_head : Head
@@ -28,14 +30,19 @@ word_by f =
     (cond (eqb f.kind 3) (Tuning f.word)
     (cond (eqb f.kind 4) (Administration f.word) (Index7 f.word)))))
 
+abbrev pub same_head : Head → Head → Bool
+same_head h k = eqb h.direction k.direction && (eqb h.extent k.extent && (eqb h.event k.event && eqb h.location k.location))
+
 abbrev pub same : WordFields → WordFields → Bool
 same f g =
-    (((eqb f.word g.word && eqb f.content g.content)
-    && ((eqb f.head.direction g.head.direction && eqb f.head.extent g.head.extent)
-    && (eqb f.head.event g.head.event && eqb f.head.location g.head.location)))
-    && ((eqb f.duration g.duration && eqb f.diversion g.diversion) && (eqb f.ci g.ci && eqb f.second g.second)))
-    && (eqb f.gsi g.gsi && eqb f.kind g.kind)
+    eqb f.word g.word && (eqb f.content g.content && (same_head f.head g.head
+    && (eqb f.duration g.duration && (eqb f.diversion g.diversion
+    && (eqb f.ci g.ci && (eqb f.second g.second && (eqb f.gsi g.gsi && eqb f.kind g.kind)))))))
 
--- the word whose fields these are; where there is none, a number that is no word
-unfoldable pub word_from : WordFields → Word
-word_from f = whose same fields_of f (word_by f) (Beyond 0)
+-- the word whose fields these are; refused where there is none
+unfoldable pub word_from : WordFields → Result Word Refusal
+word_from f = whose same fields_of f (word_by f)
+
+-- and where there is none, a number that is no word
+abbrev pub word_or_none : WordFields → Word
+word_or_none f = result_unwrap_or (word_from f) (Beyond 0)

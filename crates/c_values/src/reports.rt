@@ -1,6 +1,6 @@
 // Reports.
 ghost use Rattle.std.specs.Prelude.{◌≡◌};
-ghost use Rattle.c_values.specs.Reports.{form_number, form_from, count_from, plain_of, report_from};
+ghost use Rattle.c_values.specs.Reports.{plain_of, report_from};
 
 use content::items::Items;
 use report::{Form, Report};
@@ -18,62 +18,42 @@ pub struct PlainReport {
     pub form: u8,
 }
 
-impl PlainReport {
-    // A report as C has it.
-    pub fn of(r: Report) -> Self
-        ensures { result ≡ plain_of r }
-    {
-        let items = r.items;
-        let head = r.head;
-        let form = r.form;
+// A report as C has it.
+impl From<Report> for PlainReport {
+    ghost from_gives = { λ report plain. plain ≡ plain_of report };
+
+    fn from(report: Report) -> Self {
         PlainReport {
-            items,
-            head,
-            real: r.real,
-            diversion: r.diversion,
-            duration: r.duration,
-            form: form_number(form),
+            items: report.items,
+            head: report.head,
+            real: report.real,
+            diversion: report.diversion,
+            duration: report.duration,
+            form: match report.form {
+                Form::Single => 0,
+                Form::Multi => 1,
+            },
         }
     }
+}
 
-    // The report; one of 29 items, which no call takes, where the form is another number.
-    pub fn report(self) -> Report
-        ensures { result ≡ report_from self }
-    {
-        let items = self.items;
-        let places = items.places;
-        let head = self.head;
+// The report; where the form is another number, one of 29 items: each call refuses it in its turn.
+impl From<PlainReport> for Report {
+    ghost from_gives = { λ plain report. report ≡ report_from plain };
+
+    fn from(plain: PlainReport) -> Self {
+        let form = plain.form;
+        let count = plain.items.count;
         Report {
             items: Items {
-                places,
-                count: count_from(self.form, items.count),
+                places: plain.items.places,
+                count: if form <= 1 { count } else { Items::LIMIT + 1 },
             },
-            head,
-            real: self.real,
-            diversion: self.diversion,
-            duration: self.duration,
-            form: form_from(self.form),
+            head: plain.head,
+            real: plain.real,
+            diversion: plain.diversion,
+            duration: plain.duration,
+            form: if form == 0 { Form::Single } else { Form::Multi },
         }
     }
-}
-
-fn form_number(form: Form) -> u8
-    ensures { result ≡ form_number form }
-{
-    match form {
-        Form::Single => 0,
-        Form::Multi => 1,
-    }
-}
-
-fn form_from(n: u8) -> Form
-    ensures { result ≡ form_from n }
-{
-    if n == 0 { Form::Single } else { Form::Multi }
-}
-
-fn count_from(form: u8, count: usize) -> usize
-    ensures { result ≡ count_from form count }
-{
-    if form <= 1 { count } else { Items::LIMIT + 1 }
 }

@@ -1,12 +1,13 @@
 // System words of 16 bits.
 ghost use Rattle.std.specs.Prelude.{◌≡◌};
-ghost use Rattle.c_values.specs.Systems.{none, fields_of, system_by, same, system_from};
+ghost use Rattle.c_values.specs.Systems.{fields_of, system_by, system_from, system_or_none};
 
+use refusal::Refusal;
 use system::System;
 
 // The variant of a system word, 0 or 1, and its fields: 0 where the variant has no such field.
 #[repr(C)]
-#[derive(Clone, Copy)]
+#[derive(Clone, Copy, Default, PartialEq, Eq)]
 pub struct SystemFields {
     pub variant: u8,
     pub ltn: u8,
@@ -23,33 +24,12 @@ pub struct SystemFields {
     pub td: u8,
 }
 
-impl SystemFields {
-    // No field set.
-    pub fn none() -> Self
-        ensures { result ≡ none }
-    {
-        SystemFields {
-            variant: 0,
-            ltn: 0,
-            afi: 0,
-            mode: 0,
-            international: 0,
-            national: 0,
-            regional: 0,
-            urban: 0,
-            gap: 0,
-            sid: 0,
-            ta: 0,
-            tw: 0,
-            td: 0,
-        }
-    }
+// The fields of a system word.
+impl From<System> for SystemFields {
+    ghost from_gives = { λ system fields. fields ≡ fields_of system };
 
-    // The fields of a system word.
-    pub fn of(system: System) -> Self
-        ensures { result ≡ fields_of system }
-    {
-        let mut f = SystemFields::none();
+    #[tactic(auto, unfolding(crate::specs::Systems::fields_of))]
+    fn from(system: System) -> Self {
         match system {
             System::Table {
                 ltn,
@@ -59,53 +39,55 @@ impl SystemFields {
                 national,
                 regional,
                 urban,
-            } => {
-                f.ltn = ltn;
-                f.afi = afi;
-                f.mode = mode;
-                f.international = international;
-                f.national = national;
-                f.regional = regional;
-                f.urban = urban;
-                f
-            }
+            } => SystemFields {
+                ltn,
+                afi,
+                mode,
+                international,
+                national,
+                regional,
+                urban,
+                ..SystemFields::default()
+            },
             System::Service {
                 gap,
                 sid,
                 ta,
                 tw,
                 td,
-            } => {
-                f.variant = 1;
-                f.gap = gap;
-                f.sid = sid;
-                f.ta = ta;
-                f.tw = tw;
-                f.td = td;
-                f
-            }
+            } => SystemFields {
+                variant: 1,
+                gap,
+                sid,
+                ta,
+                tw,
+                td,
+                ..SystemFields::default()
+            },
         }
     }
+}
 
-    // The system word whose fields these are; where there is none, one that no call takes.
-    pub fn system(self) -> System
-        ensures { result ≡ system_from self }
-    {
-        let system = self.by_variant();
-        if self.is_same(SystemFields::of(system)) {
-            system
+// The system word whose fields these are; refused (9) where there is none.
+impl TryFrom<SystemFields> for System {
+    type Error = Refusal;
+
+    ghost try_from_gives = { λ fields system. system ≡ system_from fields };
+
+    #[tactic(auto, unfolding(crate::specs::Systems::system_from))]
+    fn try_from(fields: SystemFields) -> Result<System, Refusal> {
+        let system = fields.by_variant();
+        if fields == SystemFields::from(system) {
+            Ok(system)
         } else {
-            System::Service {
-                gap: 255,
-                sid: 0,
-                ta: 0,
-                tw: 0,
-                td: 0,
-            }
+            Err(Refusal::Unfit)
         }
     }
+}
 
+impl SystemFields {
     // The system word of the variant's own fields.
+    #[tactic(auto, unfolding(crate::specs::Systems::system_by))]
     fn by_variant(self) -> System
         ensures { result ≡ system_by self }
     {
@@ -130,21 +112,16 @@ impl SystemFields {
         }
     }
 
-    fn is_same(self, g: SystemFields) -> bool
-        ensures { result ≡ same self g }
+    // The system word whose fields these are; where there is none, one that no call takes.
+    pub fn system(self) -> System
+        ensures { result ≡ system_or_none self }
     {
-        ((self.variant == g.variant)
-            & (self.ltn == g.ltn)
-            & (self.afi == g.afi)
-            & (self.mode == g.mode))
-            & ((self.international == g.international)
-                & (self.national == g.national)
-                & (self.regional == g.regional)
-                & (self.urban == g.urban))
-            & ((self.gap == g.gap)
-                & (self.sid == g.sid)
-                & (self.ta == g.ta)
-                & (self.tw == g.tw)
-                & (self.td == g.td))
+        System::try_from(self).unwrap_or(System::Service {
+            gap: 255,
+            sid: 0,
+            ta: 0,
+            tw: 0,
+            td: 0,
+        })
     }
 }

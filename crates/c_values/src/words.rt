@@ -1,13 +1,14 @@
 // 37-bit words.
 ghost use Rattle.std.specs.Prelude.{◌≡◌};
-ghost use Rattle.c_values.specs.Words.{fields_of, word_by, same, word_from};
+ghost use Rattle.c_values.specs.Words.{fields_of, word_by, word_from, word_or_none};
 
+use refusal::Refusal;
 use word::{Head, Word};
 
 // The kind of a word, 0 single group, 1 first group, 2 later group, 3 tuning, 4 administration, 5 index 7, and its fields: 0 where the kind has
 // no such field.
 #[repr(C)]
-#[derive(Clone, Copy)]
+#[derive(Clone, Copy, Default, PartialEq, Eq)]
 pub struct WordFields {
     pub word: u64,
     pub content: u32,
@@ -20,102 +21,95 @@ pub struct WordFields {
     pub kind: u8,
 }
 
-impl WordFields {
-    // The fields of a word; of a number that is no word all are 0.
-    pub fn of(word: Word) -> Self
-        ensures { result ≡ fields_of word }
-    {
-        let none = Head {
-            direction: 0,
-            extent: 0,
-            event: 0,
-            location: 0,
-        };
-        let mut f = WordFields {
-            word: 0,
-            content: 0,
-            head: none,
-            duration: 0,
-            diversion: 0,
-            ci: 0,
-            second: 0,
-            gsi: 0,
-            kind: 0,
-        };
+// The fields of a word; of a number that is no word all are 0.
+impl From<Word> for WordFields {
+    ghost from_gives = { λ word fields. fields ≡ fields_of word };
+
+    #[tactic(auto, unfolding(crate::specs::Words::fields_of))]
+    fn from(word: Word) -> Self {
         match word {
             Word::Single {
                 duration,
                 diversion,
                 head,
-            } => {
-                f.duration = duration;
-                f.diversion = diversion;
-                f.head = head;
-                f
-            }
-            Word::First { ci, head } => {
-                f.kind = 1;
-                f.ci = ci;
-                f.head = head;
-                f
-            }
+            } => WordFields {
+                head,
+                duration,
+                diversion,
+                ..WordFields::default()
+            },
+            Word::First { ci, head } => WordFields {
+                head,
+                ci,
+                kind: 1,
+                ..WordFields::default()
+            },
             Word::Later {
                 ci,
                 second,
                 gsi,
                 content,
-            } => {
-                f.kind = 2;
-                f.ci = ci;
-                f.second = second;
-                f.gsi = gsi;
-                f.content = content;
-                f
-            }
-            Word::Tuning(word) => {
-                f.kind = 3;
-                f.word = word;
-                f
-            }
-            Word::Administration(word) => {
-                f.kind = 4;
-                f.word = word;
-                f
-            }
-            Word::Index7(word) => {
-                f.kind = 5;
-                f.word = word;
-                f
-            }
-            Word::Beyond(_) => f,
+            } => WordFields {
+                content,
+                ci,
+                second,
+                gsi,
+                kind: 2,
+                ..WordFields::default()
+            },
+            Word::Tuning(word) => WordFields {
+                word,
+                kind: 3,
+                ..WordFields::default()
+            },
+            Word::Administration(word) => WordFields {
+                word,
+                kind: 4,
+                ..WordFields::default()
+            },
+            Word::Index7(word) => WordFields {
+                word,
+                kind: 5,
+                ..WordFields::default()
+            },
+            Word::Beyond(_) => WordFields::default(),
         }
     }
+}
 
-    // The word whose fields these are; where there is none, a number that is no word.
-    pub fn word(self) -> Word
-        ensures { result ≡ word_from self }
-    {
-        let word = self.by_kind();
-        if self.is_same(WordFields::of(word)) {
-            word
+// The word whose fields these are; refused (9) where there is none.
+impl TryFrom<WordFields> for Word {
+    type Error = Refusal;
+
+    ghost try_from_gives = { λ fields word. word ≡ word_from fields };
+
+    #[tactic(auto, unfolding(crate::specs::Words::word_from))]
+    fn try_from(fields: WordFields) -> Result<Word, Refusal> {
+        let word = fields.by_kind();
+        if fields == WordFields::from(word) {
+            Ok(word)
         } else {
-            Word::Beyond(0)
+            Err(Refusal::Unfit)
         }
     }
+}
 
+impl WordFields {
     // The word of the kind's own fields.
+    #[tactic(auto, unfolding(crate::specs::Words::word_by))]
     fn by_kind(self) -> Word
         ensures { result ≡ word_by self }
     {
-        let head = self.head;
-        let kind = self.kind;
-        match kind {
+        match self.kind {
             0 => Word::Single {
                 duration: self.duration,
                 diversion: self.diversion,
-                head,
+                head: self.head,
             },
-            1 => Word::First { ci: self.ci, head },
+            1 => Word::First {
+                ci: self.ci,
+                head: self.head,
+            },
             2 => Word::Later {
                 ci: self.ci,
                 second: self.second,
@@ -128,16 +122,10 @@ impl WordFields {
         }
     }
 
-    fn is_same(self, g: WordFields) -> bool
-        ensures { result ≡ same self g }
+    // The word whose fields these are; where there is none, a number that is no word.
+    pub fn word(self) -> Word
+        ensures { result ≡ word_or_none self }
     {
-        let h = self.head;
-        let k = g.head;
-        ((self.word == g.word) & (self.content == g.content))
-            & (((h.direction == k.direction) & (h.extent == k.extent))
-                & ((h.event == k.event) & (h.location == k.location)))
-            & (((self.duration == g.duration) & (self.diversion == g.diversion))
-                & ((self.ci == g.ci) & (self.second == g.second)))
-            & ((self.gsi == g.gsi) & (self.kind == g.kind))
+        Word::try_from(self).unwrap_or(Word::Beyond(0))
     }
 }

@@ -18,7 +18,7 @@ pub extern "C" fn alertc_report_write(report: PlainReport, ci: u8, words: &mut [
     ensures value { result ≡ written_by (write_report ci (report_from report) (length words.old)) }
     ensures words_after { words.new ≡ words_after ci (report_from report) words.old }
 {
-    Written::of(report_write::write(report.report(), ci, words))
+    Written::from(report_write::write(report.into(), ci, words))
 }
 
 // Takes a word into the assembler.
@@ -26,5 +26,5 @@ pub extern "C" fn alertc_report_write(report: PlainReport, ci: u8, words: &mut [
 pub extern "C" fn alertc_assembler_step(state: Partial, word: u64) -> AssemblerAnswer
     ensures { result ≡ step_answer (step_of read_report (state_from state) word) }
 {
-    AssemblerAnswer::of(state_from(state).step(word))
+    AssemblerAnswer::from(state_from(state).step(word))
 }

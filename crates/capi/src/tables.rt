@@ -34,15 +34,13 @@ pub extern "C" fn alertc_table_take(
     ensures clock_after { clock.new ≡ (chosen_step table.old catalogue.now lives.now clock.old (arrival_of report service minute) lto choice).last.0 }
 {
     let arrival = Arrival {
-        report: report.report(),
+        report: report.into(),
         service,
         minute: Utc(minute),
     };
     let step = take(table, catalogue, lives, Utc(*clock), arrival, lto, choice);
-    let last = step.last;
-    let answer = step.answer;
-    *clock = last.0;
-    TableAnswer::of(answer)
+    *clock = step.last.0;
+    TableAnswer::from(step.answer)
 }
 
 // Frees the records that expire at or before a minute.
@@ -53,10 +51,8 @@ pub extern "C" fn alertc_table_expire(table: &mut [u8], clock: &mut u32, minute:
     ensures clock_after { clock.new ≡ (expire_step table.old clock.old minute).last.0 }
 {
     let step = Table::expire(table, Utc(*clock), Utc(minute));
-    let last = step.last;
-    let answer = step.answer;
-    *clock = last.0;
-    TableAnswer::of(answer)
+    *clock = step.last.0;
+    TableAnswer::from(step.answer)
 }
 
 // Works out the update classes of every used record anew from a changed catalogue.
@@ -65,7 +61,7 @@ pub extern "C" fn alertc_table_renew(table: &mut [u8], catalogue: &[u16]) -> Ren
     ensures value { result ≡ renewal_told (renew_answer table.old catalogue.now) }
     ensures table_after { table.new ≡ renew_table table.old catalogue.now }
 {
-    Renewal::of(renew(table, catalogue))
+    Renewal::from(renew(table, catalogue))
 }
 
 // Reads the record at a place. One of a foreign location gives an FLT code and the real location.
@@ -73,7 +69,7 @@ pub extern "C" fn alertc_table_renew(table: &mut [u8], catalogue: &[u16]) -> Ren
 pub extern "C" fn alertc_table_read(table: &[u8], place: usize) -> RecordReading
     ensures { result ≡ record_reading (record_at table.now place) }
 {
-    RecordReading::of(Table::read(table, place))
+    RecordReading::from(Table::read(table, place))
 }
 
 // Reads the bytes of one record, in the same way.
@@ -81,7 +77,7 @@ pub extern "C" fn alertc_table_read(table: &[u8], place: usize) -> RecordReading
 pub extern "C" fn alertc_record_read(bytes: &[u8]) -> RecordReading
     ensures { result ≡ record_reading (reading_of bytes.now) }
 {
-    RecordReading::of(record_report::read::read(bytes))
+    RecordReading::from(record_report::read::read(bytes))
 }
 
 // The minute at which a report of this life, taken at this minute, expires.
@@ -89,5 +85,5 @@ pub extern "C" fn alertc_record_read(bytes: &[u8]) -> RecordReading
 pub extern "C" fn alertc_expiry(minute: u32, lto: i8, life: u16) -> ExpiryAnswer
     ensures { result ≡ expiry_told (expiry_answer minute lto life) }
 {
-    ExpiryAnswer::of(Utc(minute).expiry(lto, life))
+    ExpiryAnswer::from(Utc(minute).expiry(lto, life))
 }

@@ -1,134 +1,109 @@
 // The words that a frame carries, by its kind.
 #![tactic(auto)]
 
-ghost use Rattle.std.specs.Prelude.{◌≡◌, ◌≤◌, length, drop};
-ghost use Rattle.bits.specs.Fields.{flat};
-ghost use Rattle.crc.specs.Block.{payload};
-ghost use Rattle.rds.specs.Repeat.{received};
-ghost use Rattle.fig.specs.Format.{header_length};
-ghost use Rattle.fig.specs.Read.{read_fig, words_after as Fig·words_after};
-ghost use Rattle.drm.specs.Read.{read_unit, words_after as Drm·words_after};
-ghost use Rattle.carriers.specs.Carried.{most_words, carried_in, count_of, by_rds, by_fig, by_unit, carried_by, run_after, rds_after, words_after};
+ghost use Rattle.std.specs.Prelude.{◌≡◌, ◌≤◌, length};
+ghost use Rattle.refusal.specs.Number.{count_in};
+ghost use Rattle.carriers.specs.Carried.{most_words, kind_by, carried_in, carried_by, run_after, words_after, rds_count, fig_count, rds_after};
 
 use drm::DataUnit;
 use fig::Fig;
-use rds::{Answer, Run};
+use rds::Run;
+use refusal::Refusal;
 
-// What a frame carries: a number of words, in a buffer beside it, or a refusal.
-#[derive(Clone, Copy)]
-pub enum Carried {
-    Words(usize),
-    Refused(u8),
+// What a frame's body is.
+#[derive(Clone, Copy, Debug, PartialEq, Eq)]
+pub enum Kind {
+    // An RDS group.
+    Rds = 1,
+    // A FIG.
+    Fig = 2,
+    // A DRM data unit.
+    Drm = 3,
 }
 
-// What a frame carries, and the run after it.
-#[derive(Clone, Copy)]
+impl TryFrom<usize> for Kind {
+    type Error = Refusal;
+
+    ghost try_from_gives = { λ kind r. r ≡ kind_by kind };
+
+    #[tactic(auto, unfolding(crate::specs::Carried::kind_by))]
+    fn try_from(kind: usize) -> Result<Self, Refusal> {
+        match kind {
+            1 => Ok(Kind::Rds),
+            2 => Ok(Kind::Fig),
+            3 => Ok(Kind::Drm),
+            _ => Err(Refusal::OtherKind),
+        }
+    }
+}
+
+// The run after a frame, and how many words it carries, in a buffer beside it, or its refusal.
+#[derive(Clone, Copy, Debug, PartialEq, Eq)]
 pub struct Reception {
     pub run: Run,
-    pub carried: Carried,
+    pub carried: Result<usize, Refusal>,
 }
 
-impl Carried {
-    // The kinds: an RDS group, a FIG, a DRM data unit.
-    pub const RDS: usize = 1;
-
-    pub const FIG: usize = 2;
-
-    pub const DRM: usize = 3;
+impl Reception {
     // The most words of a frame: those of a data unit.
     pub const WORDS: usize = DataUnit::WORDS;
 }
 
 // Reads the words of a frame's body, by its kind, into the first cells of a buffer. A kind other than the three is refused (2). The cells
-// after the words stay, and on a refusal all cells do.
-pub fn receive(run: Run, kind: usize, body: &[u8], words: &mut [u64; Carried::WORDS]) -> Reception
+// after the words stay, and on a refusal all cells do. Of a FIG's words those of 16 bits do not count.
+#[tactic(auto, using(crate::proofs::Carrying::rds_carried, crate::proofs::Carrying::fig_carried, crate::proofs::Carrying::unit_carried, crate::proofs::Carrying::fig_fits, crate::proofs::Carrying::unit_fits, crate::proofs::Carrying::rds_fits), unfolding(crate::specs::Carried::carried_as, crate::specs::Carried::run_as, crate::specs::Carried::words_as))]
+pub fn receive(run: Run, kind: usize, body: &[u8], words: &mut [u64; Reception::WORDS]) -> Reception
     ensures run_value { result.run ≡ run_after kind run body.now }
     ensures words_after { carried_in result.carried words.new ≡ carried_by kind run body.now }
-    ensures carried_bound { (count_of result.carried ≤ most_words) × (length words.new ≡ most_words) }
+    ensures carried_bound { (count_in result.carried ≤ most_words) × (length words.new ≡ most_words) }
     ensures words_after_2 { words.new ≡ words_after kind run body.now words.old }
 {
-    let out: &mut [u64] = words;
-    if kind == Carried::RDS {
-        return from_rds(run, body, out);
-    }
-    if kind == Carried::FIG {
-        return Reception {
-            run,
-            carried: from_fig(body, out),
-        };
-    }
-    if kind == Carried::DRM {
-        return Reception {
-            run,
-            carried: from_drm(body, out),
-        };
-    }
-    Reception {
-        run,
-        carried: Carried::Refused(2),
-    }
-}
-
-// The word of an RDS group that the repeat rule makes valid.
-fn from_rds(run: Run, group: &[u8], words: &mut [u64]) -> Reception
-    requires { length words.old ≡ most_words }
-    ensures run_value { result.run ≡ (received run group.now).run }
-    ensures words_after { carried_in result.carried words.new ≡ by_rds (received run group.now).answer }
-    ensures carried_bound { count_of result.carried ≤ most_words }
-    ensures words_after_2 { words.new ≡ rds_after (received run group.now).answer words.old }
-{
-    let step = run.receive(group);
-    let next = step.run;
-    let answer = step.answer;
-    match answer {
-        Answer::Valid(word) => {
-            words[0] = word;
+    match Kind::try_from(kind) {
+        Ok(Kind::Rds) => {
+            let step = run.receive(body);
             Reception {
-                run: next,
-                carried: Carried::Words(1),
+                run: step.run,
+                carried: put_valid(step.answer, words),
             }
         }
-        Answer::Nothing => Reception {
-            run: next,
-            carried: Carried::Words(0),
+        Ok(Kind::Fig) => Reception {
+            run,
+            carried: Fig::read(body, words).map(long_words),
         },
-        Answer::Refused(n) => Reception {
-            run: next,
-            carried: Carried::Refused(n),
+        Ok(Kind::Drm) => Reception {
+            run,
+            carried: DataUnit::read(body, words).map(|r| r.count),
+        },
+        Err(refusal) => Reception {
+            run,
+            carried: Err(refusal),
         },
     }
 }
 
-// The 37-bit words of a FIG; words of 16 bits are none.
-fn from_fig(body: &[u8], words: &mut [u64]) -> Carried
+// Puts a valid word into the first cell: how many words there are.
+#[tactic(auto, unfolding(crate::specs::Carried::rds_after))]
+fn put_valid(answer: Result<Option<u64>, Refusal>, words: &mut [u64]) -> Result<usize, Refusal>
     requires { length words.old ≡ most_words }
-    ensures words_after { carried_in result words.new ≡ by_fig (read_fig body.now most_words) body.now }
-    ensures result_bound { count_of result ≤ most_words }
-    ensures words_after_2 { words.new ≡ Fig·words_after (read_fig body.now most_words) (drop header_length body.now) words.old }
+    ensures count { result ≡ rds_count answer }
+    ensures words_after { words.new ≡ rds_after answer words.old }
 {
-    let reading = Fig::read(body, words);
-    match reading {
-        fig::Reading::Taken { fig, count } => {
-            if fig.d1 == 0 {
-                Carried::Words(count)
-            } else {
-                Carried::Words(0)
-            }
+    match answer? {
+        Some(word) => {
+            words[0] = word;
+            Ok(1)
         }
-        fig::Reading::Refused(n) => Carried::Refused(n),
+        None => Ok(0),
     }
 }
 
-// The user words of a DRM data unit.
-fn from_drm(body: &[u8], words: &mut [u64]) -> Carried
-    requires { length words.old ≡ most_words }
-    ensures words_after { carried_in result words.new ≡ by_unit (read_unit body.now most_words) body.now }
-    ensures result_bound { count_of result ≤ most_words }
-    ensures words_after_2 { words.new ≡ Drm·words_after (read_unit body.now most_words) (flat 8 (payload body.now)) words.old }
+// How many words of a FIG have 37 bits.
+fn long_words(reading: fig::Reading) -> usize
+    ensures { result ≡ fig_count reading }
 {
-    let reading = DataUnit::read(body, words);
-    match reading {
-        drm::Reading::Taken { unit: _, count } => Carried::Words(count),
-        drm::Reading::Refused(n) => Carried::Refused(n),
+    if reading.fig.d1 == 0 {
+        reading.count
+    } else {
+        0
     }
 }

@@ -1,15 +1,17 @@
 -- Computed cases of whole FIBs (document 02, R-2; EN 300 401, 5.2.1): the answer and the two buffers.
-use Rattle.std.specs.Prelude.{ℕ, List, [], ◌∷◌, ◌++◌, take, replicate}
+use Rattle.std.specs.Prelude.{ℕ, List, [], ◌∷◌, ◌++◌, take, replicate, Result, Ok, Err}
+use Rattle.refusal.specs.declared.Refusal.TheVariants.{WrongLength, Reserved, WrongCheckWord, SmallBuffer}
+use Rattle.refusal.specs.declared.Refusal.{Refusal}
 use Rattle.word.specs.Samples.{first401, later401}
 use Rattle.fib.specs.declared.Reading.{Reading}
-use Rattle.fib.specs.declared.Reading.TheVariants.{Taken, Stopped, Refused}
+use Rattle.fib.specs.declared.Reading.TheVariants.{Whole, Stopped}
 use Rattle.fib.specs.Read.{read_block, read_words, room_in, words_after, origins_after}
 use Rattle.cases.specs.Case.{Case, case}
 use Rattle.cases.specs.Samples.{pair_fig}
 
 -- what a call gives
 record Given : Type 0 where
-  answer : Reading
+  answer : Result Reading Refusal
   words : List ℕ
   origins : List ℕ
 
@@ -62,17 +64,17 @@ empty = 0xA3 ∷ 0x89 ∷ 0x04 ∷ 0x66 ∷ 0xA1 ∷ 0x09 ∷ 0xFF ∷ replicate
 
 unfoldable pub fib_cases : List Case
 fib_cases =
-    case 1 (given idle 2 2) (record { answer = Taken 0; words = cells 2; origins = cells 2 })
-    ∷ case 2 (given pair 3 3) (record { answer = Taken 2; words = first401 ∷ later401 ∷ 7 ∷ []; origins = 1 ∷ 1 ∷ 7 ∷ [] })
-    ∷ case 3 (given around 4 4) (record { answer = Taken 4; words = first401 ∷ later401 ∷ first401 ∷ later401 ∷ []; origins = 1 ∷ 1 ∷ 1 ∷ 1 ∷ [] })
-    ∷ case 4 (given mixed 4 4) (record { answer = Taken 3; words = first401 ∷ later401 ∷ 0x0466 ∷ 7 ∷ []; origins = 1 ∷ 1 ∷ 9 ∷ 7 ∷ [] })
-    ∷ case 5 (given second 2 2) (record { answer = Stopped (record { count = 1; at = 4 }) 3; words = 0x0466 ∷ 7 ∷ []; origins = 9 ∷ 7 ∷ [] })
-    ∷ case 6 (given (past (0x9A ∷ 0x48 ∷ [])) 2 2) (record { answer = Refused 1; words = cells 2; origins = cells 2 })
-    ∷ case 6 (given (past (0x9A ∷ 0x49 ∷ [])) 2 2) (record { answer = Refused 4; words = cells 2; origins = cells 2 })
-    ∷ case 7 (given twice 3 3) (record { answer = Stopped (record { count = 2; at = 12 }) 15; words = first401 ∷ later401 ∷ 7 ∷ []; origins = 1 ∷ 1 ∷ 7 ∷ [] })
-    ∷ case 7 (given twice 4 3) (record { answer = Stopped (record { count = 2; at = 12 }) 15; words = first401 ∷ later401 ∷ 7 ∷ 7 ∷ []; origins = 1 ∷ 1 ∷ 7 ∷ [] })
-    ∷ case 7 (given twice 4 4) (record { answer = Taken 4; words = first401 ∷ later401 ∷ first401 ∷ later401 ∷ []; origins = 1 ∷ 1 ∷ 1 ∷ 1 ∷ [] })
-    ∷ case 8 (given skipped 2 2) (record { answer = Taken 1; words = 0x0466 ∷ 7 ∷ []; origins = 9 ∷ 7 ∷ [] })
-    ∷ case 9 (given empty 2 2) (record { answer = Stopped (record { count = 1; at = 4 }) 1; words = 0x0466 ∷ 7 ∷ []; origins = 9 ∷ 7 ∷ [] })
-    ∷ case 10 (given (take 31 pair) 3 3) (record { answer = Refused 1; words = cells 3; origins = cells 3 })
+    case 1 (given idle 2 2) (record { answer = Ok (Whole 0); words = cells 2; origins = cells 2 })
+    ∷ case 2 (given pair 3 3) (record { answer = Ok (Whole 2); words = first401 ∷ later401 ∷ 7 ∷ []; origins = 1 ∷ 1 ∷ 7 ∷ [] })
+    ∷ case 3 (given around 4 4) (record { answer = Ok (Whole 4); words = first401 ∷ later401 ∷ first401 ∷ later401 ∷ []; origins = 1 ∷ 1 ∷ 1 ∷ 1 ∷ [] })
+    ∷ case 4 (given mixed 4 4) (record { answer = Ok (Whole 3); words = first401 ∷ later401 ∷ 0x0466 ∷ 7 ∷ []; origins = 1 ∷ 1 ∷ 9 ∷ 7 ∷ [] })
+    ∷ case 5 (given second 2 2) (record { answer = Ok (Stopped (record { count = 1; at = 4 }) Reserved); words = 0x0466 ∷ 7 ∷ []; origins = 9 ∷ 7 ∷ [] })
+    ∷ case 6 (given (past (0x9A ∷ 0x48 ∷ [])) 2 2) (record { answer = Err WrongLength; words = cells 2; origins = cells 2 })
+    ∷ case 6 (given (past (0x9A ∷ 0x49 ∷ [])) 2 2) (record { answer = Err WrongCheckWord; words = cells 2; origins = cells 2 })
+    ∷ case 7 (given twice 3 3) (record { answer = Ok (Stopped (record { count = 2; at = 12 }) SmallBuffer); words = first401 ∷ later401 ∷ 7 ∷ []; origins = 1 ∷ 1 ∷ 7 ∷ [] })
+    ∷ case 7 (given twice 4 3) (record { answer = Ok (Stopped (record { count = 2; at = 12 }) SmallBuffer); words = first401 ∷ later401 ∷ 7 ∷ 7 ∷ []; origins = 1 ∷ 1 ∷ 7 ∷ [] })
+    ∷ case 7 (given twice 4 4) (record { answer = Ok (Whole 4); words = first401 ∷ later401 ∷ first401 ∷ later401 ∷ []; origins = 1 ∷ 1 ∷ 1 ∷ 1 ∷ [] })
+    ∷ case 8 (given skipped 2 2) (record { answer = Ok (Whole 1); words = 0x0466 ∷ 7 ∷ []; origins = 9 ∷ 7 ∷ [] })
+    ∷ case 9 (given empty 2 2) (record { answer = Ok (Stopped (record { count = 1; at = 4 }) WrongLength); words = 0x0466 ∷ 7 ∷ []; origins = 9 ∷ 7 ∷ [] })
+    ∷ case 10 (given (take 31 pair) 3 3) (record { answer = Err WrongLength; words = cells 3; origins = cells 3 })
     ∷ []

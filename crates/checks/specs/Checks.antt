@@ -1,6 +1,8 @@
 -- What a call on the table refuses, but for want of room (documents 01, "The message table", and 02, R-1).
-use Rattle.std.specs.Prelude.{ℕ, Bool, cond, ◌&&◌, ◌||◌, List, ℤ, eqb, ltb}
-use Rattle.bits.specs.Checks.{must}
+use Rattle.std.specs.Prelude.{ℕ, Bool, not, ◌&&◌, ◌||◌, List, ℤ, ltb, ⊤, Result, Ok}
+use Rattle.refusal.specs.Checks.{must}
+use Rattle.refusal.specs.declared.Refusal.{Refusal}
+use Rattle.refusal.specs.declared.Refusal.TheVariants.{Unfit, Malformed, UnknownEvent, ForeignLocation, WrongMinute}
 use Rattle.location.specs.Flt.{is_flt}
 use Rattle.report.specs.declared.Report.{Report}
 use Rattle.report.specs.Fits.{report_fits}
@@ -10,7 +12,7 @@ use Rattle.record.specs.Services.{service_fits}
 use Rattle.record.specs.Locations.{location_of}
 use Rattle.lent.specs.Lent.{lent_fit}
 use Rattle.checks.specs.declared.Arrival.{Arrival}
-use Rattle.checks.specs.Events.{kind_for}
+use Rattle.checks.specs.Events.{is_known, kind_for}
 
 -- the report is one that a writer takes, the service and the offset are in their ranges
 unfoldable pub asked_fit : Report → Service → ℤ → Bool
@@ -20,14 +22,11 @@ asked_fit r s lto = report_fits r && (service_fits s && offset_fits lto)
 abbrev pub minute_unfit : ℕ → ℕ → Bool
 minute_unfit last minute = ltb minute last || ltb largest minute
 
--- the refusal by minute, code of the location and kind, in this order; 0 where there is none. 12 is for an FLT code: on a single-group report,
--- or as the real location of an INTER-ROAD one
-unfoldable pub later_refusal : (last minute code kind : ℕ) → ℕ
-later_refusal last minute code kind = cond (minute_unfit last minute) 13 (cond (is_flt code) 12 (cond (eqb kind 0) 11 0))
-
--- the first refusal but that for want of room, or 0
-unfoldable pub check_refusal : (t catalogue lives : List ℕ) → ℕ → Arrival → ℤ → ℕ
-check_refusal t catalogue lives last a lto =
-    must (lent_fit t catalogue lives) 10
-    (must (asked_fit a.report a.service lto) 9
-    (later_refusal last a.minute.0 (location_of a.service a.report).code (kind_for catalogue a.report)))
+-- the first refusal but that for want of room. An FLT code is one on a single-group report, or the real location of an INTER-ROAD one
+unfoldable pub check_answer : (t catalogue lives : List ℕ) → ℕ → Arrival → ℤ → Result ⊤ Refusal
+check_answer t catalogue lives last a lto =
+    must (lent_fit t catalogue lives) Malformed
+    (must (asked_fit a.report a.service lto) Unfit
+    (must (not (minute_unfit last a.minute.0)) WrongMinute
+    (must (not (is_flt (location_of a.service a.report).code)) ForeignLocation
+    (must (is_known (kind_for catalogue a.report)) UnknownEvent (Ok tt)))))

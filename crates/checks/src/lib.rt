@@ -2,13 +2,14 @@
 #![tactic(auto)]
 
 ghost use Rattle.std.specs.Prelude.{◌≡◌};
-ghost use Rattle.checks.specs.Checks.{minute_unfit, asked_fit, later_refusal, check_refusal};
+ghost use Rattle.checks.specs.Checks.{minute_unfit, asked_fit, check_answer};
 
 use clock::{Utc, offset_fits};
-use lent::catalogue::Entry;
+use lent::catalogue::{Entry, Kind};
 use lent::lent_fit;
 use location::Location;
 use record::Service;
+use refusal::Refusal;
 use report::Report;
 
 // What arrives: a report of a service, at a minute of UTC.
@@ -19,23 +20,39 @@ pub struct Arrival {
     pub minute: Utc,
 }
 
-// The first refusal but that for want of room, or 0.
-pub fn check(t: &[u8], catalogue: &[u16], lives: &[u16], last: Utc, arrival: Arrival, lto: i8) -> u8
-    ensures { result ≡ check_refusal t.now catalogue.now lives.now last.0 arrival lto }
+// The first refusal but that for want of room. An FLT code is one on a single-group report, or the real location of an INTER-ROAD one.
+#[tactic(auto, unfolding(crate::specs::Checks::check_answer))]
+pub fn check(
+    t: &[u8],
+    catalogue: &[u16],
+    lives: &[u16],
+    last: Utc,
+    arrival: Arrival,
+    lto: i8,
+) -> Result<(), Refusal>
+    ensures { result ≡ check_answer t.now catalogue.now lives.now last.0 arrival lto }
 {
     if !lent_fit(t, catalogue, lives) {
-        return 10;
+        return Err(Refusal::Malformed);
     }
     let report = arrival.report;
     let service = arrival.service;
     if !asked_fit(report, service, lto) {
-        return 9;
+        return Err(Refusal::Unfit);
+    }
+    if minute_unfit(last, arrival.minute) {
+        return Err(Refusal::WrongMinute);
+    }
+    let location = service.location_of(report);
+    if Location::is_flt(location.code) {
+        return Err(Refusal::ForeignLocation);
     }
     let head = report.head;
     let entry = Entry::of_event(catalogue, head.event);
-    let minute = arrival.minute;
-    let location = service.location_of(report);
-    later_refusal(last, minute, location.code, entry.kind())
+    if entry.kind() == Kind::Unknown {
+        return Err(Refusal::UnknownEvent);
+    }
+    Ok(())
 }
 
 // Whether a minute is below the last one or too large.
@@ -46,24 +63,9 @@ pub fn minute_unfit(last: Utc, minute: Utc) -> bool
 }
 
 // Whether the report, the service and the offset are in their ranges.
+#[tactic(auto, unfolding(crate::specs::Checks::asked_fit))]
 fn asked_fit(report: Report, service: Service, lto: i8) -> bool
     ensures { result ≡ asked_fit report service lto }
 {
     report.fits() & (service.fits() & offset_fits(lto))
-}
-
-// The refusal by minute, code of the location and kind of event, or 0.
-fn later_refusal(last: Utc, minute: Utc, code: u16, kind: u16) -> u8
-    ensures { result ≡ later_refusal last.0 minute.0 code kind }
-{
-    if minute_unfit(last, minute) {
-        return 13;
-    }
-    if Location::is_flt(code) {
-        return 12;
-    }
-    if kind == Entry::UNKNOWN {
-        return 11;
-    }
-    0
 }

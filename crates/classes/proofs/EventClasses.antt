@@ -2,40 +2,56 @@
 use Prim.Native.Nat.{ℕ, ◌≤◌, min}
 use native.Mathlib.Omega.{arith}
 use mathlib.Core.Path.{◌≡◌, refl, sym, ap, ◌∙◌}
-use mathlib.Core.Bool.{Bool, true, false}
-use mathlib.Core.List.{List, ◌∷◌}
+use mathlib.Core.Bool.{Bool, true, false, cond}
+use mathlib.Core.List.{List, [], ◌∷◌, reverse, reverse-cons}
 use lib.ListN.{length, take}
 use lib.Seq.{take_all}
-use lib.Dec.{leb}
-use borrow.Author.Tests.{eq-eqb, ne_eqb, leb-true, leb-false}
-use Rattle.bits.proofs.Choice.{chosen, passed_over}
+use lib.Dec.{leb, eqb}
+use borrow.Author.Tests.{leb-true, leb-false}
+use Rattle.std.specs.List.{fold}
+use Rattle.std.proofs.lemmas.List.Sums.{fold_push}
 use Rattle.content.specs.declared.item.Item.{Item}
 use Rattle.content.specs.declared.items.Items.{Items}
 use Rattle.content.specs.Stored.{limit, listed}
+use Rattle.record.specs.declared.classes.Classes.{Classes}
 use Rattle.record.specs.Classes.{with_class, set_of}
 use Rattle.lent.specs.Catalogue.{entry_at, class_of, has_class}
 use Rattle.classes.specs.Events.{additional, additional_events}
-use Rattle.classes.specs.Classes.{event_classes}
+use Rattle.classes.specs.Classes.{event_classes, with_event, with_item}
 
--- an event that has a class, and one that has none
-module _ (c : List ℕ) (e : ℕ) (es : List ℕ) where
-  pub event-classed : has_class (entry_at c e) ≡ true → with_class (set_of (event_classes c es)) (class_of (entry_at c e)) ≡ set_of (event_classes c (e ∷ es))
-  unfolding event_classes set_of
-  event-classed h = sym (ap set_of (chosen _ _ _ h))
+-- the set of events, one event more at the front
+pub event_more : (c : List ℕ) (e : ℕ) (es : List ℕ) → set_of (event_classes c (e ∷ es)) ≡ with_event c (set_of (event_classes c es)) e
+unfolding event_classes set_of
+event_more c e es = by_class (has_class (entry_at c e))
+  where
+    by_class : (b : Bool) → set_of (cond b (class_of (entry_at c e) ∷ event_classes c es) (event_classes c es)) ≡ cond b (with_class (set_of (event_classes c es)) (class_of (entry_at c e))) (set_of (event_classes c es))
+    by_class true = refl
+    by_class false = refl
 
-  pub event_passed : has_class (entry_at c e) ≡ false → set_of (event_classes c es) ≡ set_of (event_classes c (e ∷ es))
-  unfolding event_classes
-  event_passed h = sym (ap set_of (passed_over _ _ _ h))
+-- that of items
+abbrev pub items_set : List ℕ → List Item → ℕ
+items_set c its = set_of (event_classes c (additional_events its))
 
--- an item that is an additional event, and another
-module _ (i : Item) (its : List Item) where
-  pub item-event : i.label ≡ additional → i.value ∷ additional_events its ≡ additional_events (i ∷ its)
-  unfolding additional_events
-  item-event e = sym (chosen _ _ _ (eq-eqb i.label additional e))
+item_more : (c : List ℕ) (i : Item) (its : List Item) → items_set c (i ∷ its) ≡ with_item c (items_set c its) i
+unfolding additional_events
+item_more c i its = by_label (eqb i.label additional)
+  where
+    by_label : (b : Bool) → set_of (event_classes c (cond b (i.value ∷ additional_events its) (additional_events its))) ≡ cond b (with_event c (items_set c its) i.value) (items_set c its)
+    by_label true = event_more c i.value (additional_events its)
+    by_label false = refl
 
-  pub item_other : (i.label ≡ additional → ⊥) → additional_events its ≡ additional_events (i ∷ its)
-  unfolding additional_events
-  item_other e = sym (passed_over _ _ _ (ne_eqb i.label additional e))
+-- from the last item to the first
+abbrev pub added : List ℕ → Classes → Item → Classes
+added c a i = record { 0 = with_item c a.0 i }
+
+pub items_folded : (c : List ℕ) (its : List Item) → fold (added c) (record { 0 = 0 }) (reverse its) ≡ record { 0 = items_set c its }
+unfolding set_of event_classes additional_events
+items_folded c [] = refl
+items_folded c (i ∷ its) =
+    ap (fold (added c) (record { 0 = 0 })) (reverse-cons i its)
+    ∙ fold_push (added c) (record { 0 = 0 }) (reverse its) i
+    ∙ ap (λ (a : Classes). added c a i) (items_folded c its)
+    ∙ sym (ap (λ (n : ℕ). record { 0 = n }) (item_more c i its))
 
 -- the items in use are in the places that there are
 pub listed-within : (s : Items) → length s.places ≡ limit → listed (record { count = min s.count limit; places = s.places }) ≡ listed s

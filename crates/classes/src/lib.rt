@@ -1,12 +1,11 @@
 // The update classes of a report, by the catalogue.
 #![tactic(auto)]
 
-ghost use Rattle.std.specs.Prelude.{◌≡◌, List, ◌∷◌, ℕ, ◌<◌, min};
-ghost use Rattle.content.specs.declared.item.Item as declared;
-ghost use Rattle.content.specs.Stored.{limit, listed};
+ghost use Rattle.std.specs.Prelude.{◌≡◌, ◌<◌};
+ghost use Rattle.content.specs.Stored.{listed};
 ghost use Rattle.record.specs.Classes.{with_class, set_of};
 ghost use Rattle.classes.specs.Events.{additional_events};
-ghost use Rattle.classes.specs.Classes.{event_classes, set_for};
+ghost use Rattle.classes.specs.Classes.{event_classes, set_for, with_event, with_item};
 
 use content::item::Item;
 use content::items::Items;
@@ -21,39 +20,29 @@ const ADDITIONAL: u16 = 9;
 pub fn of_report(report: Report, catalogue: &[u16]) -> Classes
     ensures { result.0 ≡ set_for catalogue.now report }
 {
-    let head = report.head;
-    let items = report.items;
-    with_event(of_items(items, catalogue), head.event, catalogue)
+    with_event(
+        of_items(report.items, catalogue),
+        report.head.event,
+        catalogue,
+    )
 }
 
 // The classes of the additional events among items, from the last one to the first.
 fn of_items(items: Items, catalogue: &[u16]) -> Classes
     ensures { result.0 ≡ set_of (event_classes catalogue.now (additional_events (listed items))) }
 {
-    let mut classes = Classes::new();
-    let mut i = at_most_all(items.count);
-    while 0 < i {
-        i -= 1;
-        let item = items.places[i];
-        classes = with_item(classes, item, catalogue);
-    }
-    classes
-}
-
-// The number of items, or of places where it is above.
-fn at_most_all(count: usize) -> usize
-    ensures { result ≡ min count limit }
-{
-    if count < Items::LIMIT {
-        count
-    } else {
-        Items::LIMIT
-    }
+    let used = items.count.min(Items::LIMIT);
+    items.places[..used]
+        .iter()
+        .rev()
+        .fold(Classes::new(), |classes, item| {
+            with_item(classes, *item, catalogue)
+        })
 }
 
 // The classes with one item more at the front, if it is an additional event.
 fn with_item(classes: Classes, item: Item, catalogue: &[u16]) -> Classes
-    ensures { (its : List declared.Item) → classes.0 ≡ set_of (event_classes catalogue.now (additional_events its)) → result.0 ≡ set_of (event_classes catalogue.now (additional_events (item ∷ its))) }
+    ensures { result ≡ record { 0 = with_item catalogue.now classes.0 item } }
 {
     if item.label == ADDITIONAL {
         with_event(classes, item.value, catalogue)
@@ -64,7 +53,7 @@ fn with_item(classes: Classes, item: Item, catalogue: &[u16]) -> Classes
 
 // The classes with one event more at the front, if it has a class.
 fn with_event(classes: Classes, event: u16, catalogue: &[u16]) -> Classes
-    ensures { (es : List ℕ) → classes.0 ≡ set_of (event_classes catalogue.now es) → result.0 ≡ set_of (event_classes catalogue.now (event ∷ es)) }
+    ensures { result ≡ record { 0 = with_event catalogue.now classes.0 event } }
 {
     let entry = Entry::of_event(catalogue, event);
     if entry.has_class() {

@@ -7,17 +7,18 @@ use mathlib.Core.Bool.{Bool, true, false}
 use mathlib.Core.List.{List, []}
 use lib.ListN.{length}
 use Rattle.bits.specs.Bits.{all_zero}
-use Rattle.bits.specs.Outcome.{gives, refused}
+use Rattle.std.specs.Prelude.{Ok, Err}
 use Rattle.bits.proofs.Choice.{either}
-use Rattle.content.specs.Items.{First, item, unfit, first, Reading, prepend, and_then, read_by, items_within, items}
+use Rattle.content.specs.Items.{First, first, Reading, prepend, and_then, read_by, items_within, items}
 use Rattle.content.specs.declared.item.Item.{Item}
-use Rattle.content.specs.declared.read.Unread.TheVariants.{Unfit}
+use Rattle.content.specs.declared.rest.Broken.{Broken}
+use Rattle.content.specs.declared.read.Unread.TheVariants as unread
 use Rattle.content.proofs.FirstLaw.{first-shorter}
 
-and_then-same : (x : First) (f g : List Bool → Reading) → ((i : Item) (rest : List Bool) → x ≡ item i rest → f rest ≡ g rest) → and_then x f ≡ and_then x g
+and_then-same : (x : First) (f g : List Bool → Reading) → ((i : Item) (rest : List Bool) → x ≡ Ok (i, rest) → f rest ≡ g rest) → and_then x f ≡ and_then x g
 unfolding and_then
-and_then-same (item i rest) f g same = ap (prepend i) (same i rest refl)
-and_then-same (unfit n left) f g same = refl
+and_then-same (Ok (i, rest)) f g same = ap (prepend i) (same i rest refl)
+and_then-same (Err b) f g same = refl
 
 -- a reading asks its `next` only of shorter bits
 read_by-same : (l : List Bool) (f g : List Bool → Reading) → ((rest : List Bool) → length rest < length l → f rest ≡ g rest) → read_by f l ≡ read_by g l
@@ -39,14 +40,14 @@ unfolding items items_within
 items_law l = read_by-same l (items_within (length l)) items (λ rest s. within_enough (length l) (suc (length rest)) rest (omega arith) (omega arith))
 
 -- its three cases
-pub items-zero : (l : List Bool) → all_zero l ≡ true → items l ≡ gives []
+pub items-zero : (l : List Bool) → all_zero l ≡ true → items l ≡ Ok []
 unfolding read_by
 items-zero l z = items_law l ∙ rw (z, read_by)
 
-pub items-unfit : (l : List Bool) (n left : ℕ) → all_zero l ≡ false → first l ≡ unfit n left → items l ≡ refused (Unfit n left)
+pub items-broken : (l : List Bool) (b : Broken) → all_zero l ≡ false → first l ≡ Err b → items l ≡ Err (unread.Broken b)
 unfolding read_by and_then
-items-unfit l n left z e = items_law l ∙ rw (z, read_by) (rw e)
+items-broken l b z e = items_law l ∙ rw (z, read_by) (rw e)
 
-pub items-item : (l : List Bool) (i : Item) (rest : List Bool) → all_zero l ≡ false → first l ≡ item i rest → items l ≡ prepend i (items rest)
+pub items-item : (l : List Bool) (i : Item) (rest : List Bool) → all_zero l ≡ false → first l ≡ Ok (i, rest) → items l ≡ prepend i (items rest)
 unfolding read_by and_then
 items-item l i rest z e = items_law l ∙ rw (z, read_by) (rw e)

@@ -8,7 +8,7 @@ use lib.ListN.{length, take}
 use lib.Seq.{length-take-le, take_all}
 use lib.Dec.{eqb, leb}
 use borrow.Author.Tests.{eqb-true, leb-true, leb-false, le-leb, lt-leb}
-use Rattle.bits.specs.Outcome.{refused}
+use Rattle.std.specs.Prelude.{Err}
 use Rattle.bits.proofs.Choice.{either}
 use Rattle.content.specs.Items.{items}
 use Rattle.content.specs.Content.{content_length, content}
@@ -19,7 +19,7 @@ pub content-items : (l : List Bool) → length l ≤ longest → content l ≡ i
 unfolding content
 content-items l h = rw (le-leb (length l) longest h, content)
 
-pub content-refused : (l : List Bool) → longest < length l → content l ≡ refused TooLong
+pub content-refused : (l : List Bool) → longest < length l → content l ≡ Err TooLong
 unfolding content
 content-refused l h = rw (lt-leb (length l) longest h, content)
 

@@ -11,13 +11,15 @@ use borrow.Author.Tests.{ltb-true, lt-ltb, le-ltb, eq-eqb, ne_eqb}
 use Rattle.bits.specs.Bits.{bits, val, all_zero}
 use Rattle.bits.proofs.Value.{length-bits, val-bits_lt, bits-val, val_lt, all_zero-append, all_zero-val}
 use Rattle.content.specs.Widths.{label_width, width, sublabelled}
-use Rattle.content.specs.Items.{item, unfit, valued, labelled, first}
+use Rattle.std.specs.Prelude.{Ok, Err}
+use Rattle.refusal.specs.declared.Refusal.TheVariants.{CutShort, Label15}
+use Rattle.content.specs.Items.{First, broken, valued, labelled, first}
 use Rattle.content.specs.Packing.{item_bits, item_fits, zero_item}
 use Rattle.content.specs.declared.item.Item.{Item}
 use Rattle.content.proofs.FirstLaw.{first-taking}
 use Rattle.bits.proofs.Choice.{and_left, and_right}
 
-pub first_short : (l : List Bool) → length l < label_width → first l ≡ unfit 7 (length l)
+pub first_short : (l : List Bool) → length l < label_width → first l ≡ Err (broken CutShort (length l))
 unfolding first
 first_short l h = rw (lt-ltb (length l) label_width h, first)
 
@@ -26,7 +28,7 @@ module _ (l : List Bool) (long : label_width ≤ length l) (label : ℕ) (e : la
   unfolding first
   first-labelled = rw (le-ltb (length l) label_width long, first) (ap (λ (n : ℕ). labelled (length l) n (drop label_width l)) (sym e))
 
-  pub first-sublabelled : label ≡ sublabelled → first l ≡ unfit 8 (length l)
+  pub first-sublabelled : label ≡ sublabelled → first l ≡ Err (broken Label15 (length l))
   unfolding labelled
   first-sublabelled s = first-labelled ∙ rw (eq-eqb label sublabelled s, labelled)
 
@@ -35,12 +37,12 @@ module _ (l : List Bool) (long : label_width ≤ length l) (label : ℕ) (e : la
     unfolding labelled
     first-valued = first-labelled ∙ rw (ne_eqb label sublabelled plain, labelled)
 
-    pub first_cut : length (drop label_width l) < width label → first l ≡ unfit 7 (length l)
+    pub first_cut : length (drop label_width l) < width label → first l ≡ Err (broken CutShort (length l))
     unfolding valued
     first_cut h = first-valued ∙ rw (lt-ltb (length (drop label_width l)) (width label) h, valued)
 
     pub first-whole : width label ≤ length (drop label_width l)
-        → first l ≡ item (record { label = label; value = val (take (width label) (drop label_width l)) }) (drop (width label) (drop label_width l))
+        → first l ≡ Ok (record { label = label; value = val (take (width label) (drop label_width l)) }, drop (width label) (drop label_width l))
     unfolding valued
     first-whole h = first-valued ∙ rw (le-ltb (length (drop label_width l)) (width label) h, valued)
 
@@ -69,7 +71,7 @@ module _ (i : Item) (fit : item_fits i ≡ true) where
       ∙ ap₂ ◌&&◌ (all_zero-val l ∙ ap (λ (n : ℕ). eqb n 0) val_label) (all_zero-val v ∙ ap (λ (n : ℕ). eqb n 0) val_value)
 
   -- an item's bits give it back
-  pub first-item_bits : (rest : List Bool) → first (item_bits i ++ rest) ≡ item i rest
+  pub first-item_bits : (rest : List Bool) → first (item_bits i ++ rest) ≡ Ok (i, rest)
   unfolding item_bits
   first-item_bits rest =
       let w = width i.label in
@@ -82,12 +84,12 @@ module _ (i : Item) (fit : item_fits i ≡ true) where
       let long : label_width ≤ length whole = omega (arith, ap length assoc, length-append l (v ++ rest), length-bits label_width i.label) in
       let fits : w ≤ length (drop label_width whole) = omega (arith, ap length back, length-append v rest, length-bits w i.value) in
       first-whole whole long i.label (sym (ap val front ∙ val_label)) (λ s. let h = label_lt in omega arith) fits
-      ∙ ap₂ (λ (n : ℕ) (r : List Bool). item (record { label = i.label; value = n }) r)
+      ∙ ap₂ (λ (n : ℕ) (r : List Bool). let f : First = Ok (record { label = i.label; value = n }, r) in f)
       (ap (λ (m : List Bool). val (take w m)) back ∙ ap val (take_at v rest w (length-bits w i.value)) ∙ val_value)
       (ap (drop w) back ∙ drop_at v rest w (length-bits w i.value))
 
 -- an item that is taken fits, and its bits stood at the front
-pub first_fits : (l : List Bool) (i : Item) (rest : List Bool) → first l ≡ item i rest → item_fits i ≡ true
+pub first_fits : (l : List Bool) (i : Item) (rest : List Bool) → first l ≡ Ok (i, rest) → item_fits i ≡ true
 unfolding item_fits
 first_fits l i rest e =
     let t = first-taking l i rest e in
@@ -99,7 +101,7 @@ first_fits l i rest e =
     let inside : i.value < 2 ^ w = subst₂ (λ (x k : ℕ). x < 2 ^ k) t.valued m (val_lt (take w (drop label_width l))) in
     ap₂ ◌&&◌ (lt-ltb i.label sublabelled small) (lt-ltb i.value (2 ^ w) inside)
 
-pub first-bits_front : (l : List Bool) (i : Item) (rest : List Bool) → first l ≡ item i rest → l ≡ item_bits i ++ rest
+pub first-bits_front : (l : List Bool) (i : Item) (rest : List Bool) → first l ≡ Ok (i, rest) → l ≡ item_bits i ++ rest
 unfolding item_bits
 first-bits_front l i rest e =
     let t = first-taking l i rest e in

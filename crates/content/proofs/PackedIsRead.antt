@@ -1,17 +1,20 @@
 -- What is packed is read: the packer takes writable items as the reader gives them, and the reader gives them back.
 use Prim.Native.Nat.{ℕ, ◌+◌, ◌-◌, ◌≤◌}
 use native.Mathlib.Omega.{arith}
-use mathlib.Core.Path.{◌≡◌, ap, ap₂, ◌∙◌}
+use mathlib.Core.Path.{◌≡◌, sym, ap, ap₂, ◌∙◌}
 use mathlib.Core.Bool.{Bool, true, false, ◌&&◌}
 use mathlib.Core.List.{List, [], ◌++◌}
 use lib.ListN.{length, take, length-append, length-replicate}
 use lib.Seq.{take-append-add}
-use Rattle.bits.specs.Outcome.{gives}
+use Rattle.std.specs.Prelude.{Result, Ok}
+use Rattle.refusal.specs.Checks.{must}
+use Rattle.refusal.specs.declared.Refusal.{Refusal}
+use Rattle.refusal.specs.declared.Refusal.TheVariants.{Unfit}
 use Rattle.content.specs.Content.{content}
 use Rattle.content.specs.Packing.{zeros, packing, longest, writable, room, padded}
 use Rattle.content.specs.Halves.{bits_of, starting_with}
 use Rattle.content.specs.Stored.{limit, filled, well_placed}
-use Rattle.content.specs.Answers.{packed, packed_if, packed_of}
+use Rattle.content.specs.Answers.{packed, packed_of}
 use Rattle.content.specs.declared.item.Item.{Item}
 use Rattle.content.specs.declared.pack.Packed.{Packed}
 use Rattle.content.proofs.Zeros.{take-zeros}
@@ -42,16 +45,18 @@ module _ (its : List Item) (w : writable its ≡ true) where
   short : n ≤ longest
   short = packable_short its (writable-packable its w)
 
-  pub packs_all : packed_of (filled its) ≡ packed its
-  unfolding packed_if packed_of
+  pub packs_all : packed_of (filled its) ≡ Ok (packed its)
+  unfolding packed_of
   packs_all =
       let h : length its ≤ limit = let s = short in omega (arith, packing_long its) in
-      ap (λ (l : List Item). packed_if (well_placed (filled its) && writable l) l) (listed-filled its)
-      ∙ ap (λ (b : Bool). packed_if b its) (ap₂ ◌&&◌ (well_placed-filled its h) w)
+      ap (λ (l : List Item). must (well_placed (filled its) && writable l) Unfit (Ok (packed l))) (listed-filled its)
+      ∙ ap (λ (b : Bool). must b Unfit (Ok (packed its))) (ap₂ ◌&&◌ (well_placed-filled its h) w)
 
-  pub packed_is_read : content (take (room n) (bits_of (packed_of (filled its)).content)) ≡ gives its
+  pub packed_is_read : (p : Packed) → packed_of (filled its) ≡ Ok p → content (take (room n) (bits_of p.content)) ≡ Ok its
   unfolding packed
-  packed_is_read =
-      ap (λ (p : Packed). content (take (room n) (bits_of p.content))) packs_all
+  packed_is_read p e =
+      let both : ◌≡◌ {A = Result Packed Refusal} (Ok p) (Ok (packed its)) = sym e ∙ packs_all in
+      let same : p ≡ packed its = cc in
+      ap (λ (q : Packed). content (take (room n) (bits_of q.content))) same
       ∙ ap content (kept-padded (packing its) short)
       ∙ written_is_read [] its w short

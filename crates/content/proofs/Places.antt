@@ -1,15 +1,16 @@
 -- The laws of items in their places.
-use Prim.Native.Nat.{ℕ, zero, suc, ◌+◌, ◌-◌, ◌*◌, ◌≤◌, ◌<◌}
+use Prim.Native.Nat.{ℕ, zero, suc, ◌+◌, ◌-◌, ◌≤◌, ◌<◌}
 use native.Mathlib.Omega.{arith}
 use mathlib.Core.Path.{◌≡◌, refl, sym, ap, ap₂, ◌∙◌}
-use mathlib.Core.Bool.{true, ◌&&◌}
+use mathlib.Core.Bool.{true, false, ◌&&◌}
 use mathlib.Core.List.{List, [], ◌∷◌, ◌++◌}
 use lib.ListN.{length, drop, get_or, set, replicate, length-append, length-drop, take-append-drop}
 use lib.Seq.{take_at, drop_at, set_at, length-take-le, append_snoc, drop-cons, get_or-take}
 use lib.Dec.{eqb, leb}
 use borrow.Author.Tests.{le-leb, leb-true, eqb-true}
+use Rattle.std.specs.Prelude.{Some, None, slice_get}
 use Rattle.content.specs.Packing.{zero_item, last_zero}
-use Rattle.content.specs.Stored.{limit, no_item, items_from, in_cells, filled, listed, all_zero_items, well_placed}
+use Rattle.content.specs.Stored.{limit, no_item, filled, listed, all_zero_items, well_placed}
 use Rattle.content.specs.declared.item.Item.{Item}
 use Rattle.content.specs.declared.items.Items.{Items}
 use Rattle.bits.proofs.Choice.{and_left, and_right}
@@ -68,7 +69,8 @@ filled_snoc its i h =
     ∙ sym (ap (λ (x : ℕ). set (its ++ replicate x no_item) (length its) i) r
     ∙ set_at its no_item (replicate (limit - (length its + 1)) no_item) i (length its) refl))
 
-pushed_places : (s : Items) (i : Item) → s.count < limit → filled (listed s) ≡ s
+-- one item more, put into the first unused place
+pub pushed_places : (s : Items) (i : Item) → s.count < limit → filled (listed s) ≡ s
     → record { count = s.count + 1; places = set s.places s.count i } ≡ filled (listed s ++ (i ∷ []))
 unfolding filled
 pushed_places s i h e =
@@ -78,14 +80,22 @@ pushed_places s i h e =
     (ap₂ (λ (p : List Item) (x : ℕ). set p x i) (ap (λ (x : Items). x.places) (sym e)) (sym n))
     ∙ sym (filled_snoc (listed s) i (omega arith))
 
--- the last of n + 1 items
-pub last_zero_at : (its : List Item) (n : ℕ) → length its ≡ suc n → last_zero its ≡ zero_item (get_or its n no_item)
+-- the last item, as the library finds it
+pub last_zero-some : (its : List Item) (i : Item) → Some i ≡ slice_get its (length its - 1) → last_zero its ≡ zero_item i
 unfolding last_zero
-last_zero_at [] n e = absurd (omega arith)
-last_zero_at (i ∷ []) zero e = refl
-last_zero_at (i ∷ []) (suc n) e = absurd (omega arith)
-last_zero_at (i ∷ j ∷ its) zero e = absurd (omega arith)
-last_zero_at (i ∷ j ∷ its) (suc n) e = last_zero_at (j ∷ its) n (omega arith)
+last_zero-some [] i e = absurd (cc)
+last_zero-some (j ∷ []) i e = let same : j ≡ i = cc in ap zero_item same
+last_zero-some (j ∷ k ∷ its) i e =
+    let n : length (j ∷ k ∷ its) - 1 ≡ suc (length (k ∷ its) - 1) = omega arith in
+    last_zero-some (k ∷ its) i (e ∙ ap (slice_get (j ∷ k ∷ its)) n)
+
+pub last_zero-none : (its : List Item) → None ≡ slice_get its (length its - 1) → last_zero its ≡ false
+unfolding last_zero
+last_zero-none [] e = refl
+last_zero-none (j ∷ []) e = absurd (cc)
+last_zero-none (j ∷ k ∷ its) e =
+    let n : length (j ∷ k ∷ its) - 1 ≡ suc (length (k ∷ its) - 1) = omega arith in
+    last_zero-none (k ∷ its) (e ∙ ap (slice_get (j ∷ k ∷ its)) n)
 
 -- one place decides, and then the rest
 pub all_zero_items_at : (its : List Item) (n : ℕ) → n < length its → all_zero_items (drop n its) ≡ zero_item (get_or its n no_item) && all_zero_items (drop (suc n) its)
@@ -111,42 +121,10 @@ module _ (s : Items) (n : length s.places ≡ limit) (h : s.count ≤ limit) whe
       ap (λ (j : Item). j ∷ drop (suc i) (listed s)) (sym (listed_at i l))
       ∙ sym (drop-cons (listed s) i no_item (let k = length-listed in omega arith))
 
--- the items from a place on
-pub items-next : (cells : List ℕ) (i : ℕ) → 2 * i + 1 < length cells
-    → items_from (drop (2 * i) cells) ≡ record { label = get_or cells (2 * i) 0; value = get_or cells (2 * i + 1) 0 } ∷ items_from (drop (2 * suc i) cells)
-unfolding items_from
-items-next cells i h =
-    let e : suc (2 * i) ≡ 2 * i + 1 = omega arith in
-    let f : suc (2 * i + 1) ≡ 2 * suc i = omega arith in
-    ap items_from
-    (drop-cons cells (2 * i) 0 (omega arith)
-    ∙ ap (λ (l : List ℕ). get_or cells (2 * i) 0 ∷ l)
-    (ap (λ (k : ℕ). drop k cells) e ∙ drop-cons cells (2 * i + 1) 0 h ∙ ap (λ (k : ℕ). get_or cells (2 * i + 1) 0 ∷ drop k cells) f))
-
--- two cells are one place
-items-set : (cells : List ℕ) (n : ℕ) (i : Item) → 2 * n + 1 < length cells
-    → items_from (set (set cells (2 * n) i.label) (2 * n + 1) i.value) ≡ set (items_from cells) n i
-unfolding items_from
-items-set [] n i h = absurd (omega arith)
-items-set (l ∷ []) n i h = absurd (omega arith)
-items-set (l ∷ v ∷ cells) zero i h = refl
-items-set (l ∷ v ∷ cells) (suc n) i h =
-    let e : 2 * suc n ≡ suc (suc (2 * n)) = omega arith in
-    let f : 2 * suc n + 1 ≡ suc (suc (2 * n + 1)) = omega arith in
-    ap₂ (λ (x y : ℕ). items_from (set (set (l ∷ v ∷ cells) x i.label) y i.value)) e f
-    ∙ ap (λ (its : List Item). record { label = l; value = v } ∷ its) (items-set cells n i (omega arith))
-
--- zero cells hold no items
-pub none_in_cells : in_cells 0 (replicate (2 * limit) 0) ≡ filled []
-unfolding items_from filled
-none_in_cells = refl
-
--- one item more, in the cells of the first unused place
-pub put_item : (n : ℕ) (cells : List ℕ) (i : Item) → n < limit → 2 * n + 1 < length cells → filled (listed (in_cells n cells)) ≡ in_cells n cells
-    → in_cells (n + 1) (set (set cells (2 * n) i.label) (2 * n + 1) i.value) ≡ filled (listed (in_cells n cells) ++ (i ∷ []))
-put_item n cells i h k e =
-    ap (λ (p : List Item). let s : Items = record { count = n + 1; places = p } in s) (items-set cells n i k)
-    ∙ pushed_places (in_cells n cells) i h e
+  pub listed_before : (i : ℕ) → 0 < i → i ≤ s.count → get_or s.places (i - 1) no_item ∷ drop i (listed s) ≡ drop (i - 1) (listed s)
+  listed_before i p l =
+      let j : i ≡ suc (i - 1) = omega arith in
+      ap (λ (k : ℕ). get_or s.places (i - 1) no_item ∷ drop k (listed s)) j ∙ listed_cons (i - 1) (omega arith)
 
 -- items that are filled from a list are filled from their own
 pub refilled : (its : List Item) (s : Items) → s ≡ filled its → filled (listed s) ≡ s

@@ -9,7 +9,7 @@ use lib.Seq.{take_at, drop_at}
 use lib.Dec.{leb}
 use borrow.Author.Tests.{leb-true, not-true}
 use Rattle.bits.specs.Bits.{all_zero}
-use Rattle.bits.specs.Outcome.{gives}
+use Rattle.std.specs.Prelude.{Ok}
 use Rattle.content.specs.Items.{first, prepend, items}
 use Rattle.content.specs.Content.{content_length, content}
 use Rattle.content.specs.Packing.{zeros, packing, item_fits, all_fit, last_zero, longest, packable, writable, room, padded}
@@ -22,7 +22,7 @@ use Rattle.content.proofs.OneItem.{first-item_bits}
 use Rattle.content.proofs.Packings.{packing-append, packing-set, last_zero-tail}
 
 -- with zero bits after them, however many
-pub packing-read : (its : List Item) (z : List Bool) → all_fit its ≡ true → last_zero its ≡ false → all_zero z ≡ true → items (packing its ++ z) ≡ gives its
+pub packing-read : (its : List Item) (z : List Bool) → all_fit its ≡ true → last_zero its ≡ false → all_zero z ≡ true → items (packing its ++ z) ≡ Ok its
 unfolding packing all_fit
 packing-read [] z f h n = items-zero z n
 packing-read (i ∷ its) z f h n =
@@ -73,7 +73,7 @@ module _ (p : List Bool) (its : List Item) where
   unfolding padded
   padded-rest = ap (drop (length p)) (append_assoc p (packing its) zs) ∙ drop_at p (packing its ++ zs) (length p) refl
 
-  pub written_is_read : writable its ≡ true → length (p ++ packing its) ≤ longest → content (drop (length p) (padded (p ++ packing its))) ≡ gives its
+  pub written_is_read : writable its ≡ true → length (p ++ packing its) ≤ longest → content (drop (length p) (padded (p ++ packing its))) ≡ Ok its
   written_is_read w short =
       let n = length (p ++ packing its) in
       let h : length (drop (length p) (padded (p ++ packing its))) ≤ longest =

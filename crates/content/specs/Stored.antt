@@ -1,5 +1,6 @@
 -- How the code keeps items: their number, and 28 places of which the unused ones are zero.
-use Rattle.std.specs.Prelude.{ℕ, ◌-◌, Bool, true, ◌&&◌, List, [], ◌∷◌, ◌++◌, length, take, drop, replicate, leb}
+use Rattle.std.specs.Prelude.{ℕ, ◌-◌, Bool, ◌&&◌, List, ◌++◌, length, take, drop, replicate, leb}
+use Rattle.std.specs.List.{list_all}
 use Rattle.content.specs.Packing.{zero_item}
 use Rattle.content.specs.declared.item.Item.{Item}
 use Rattle.content.specs.declared.items.Items.{Items}
@@ -12,16 +13,6 @@ limit = 28
 abbrev pub no_item : Item
 no_item = record { label = 0; value = 0 }
 
--- the items of cells, a label and a value each
-unfoldable pub items_from : List ℕ → List Item
-items_from [] = []
-items_from (l ∷ []) = []
-items_from (l ∷ v ∷ cells) = record { label = l; value = v } ∷ items_from cells
-
--- so many items, in the places of cells
-abbrev pub in_cells : ℕ → List ℕ → Items
-in_cells count cells = record { count = count; places = items_from cells }
-
 -- the items, and zero items up to 28
 unfoldable pub filled : List Item → Items
 filled its = record { count = length its; places = its ++ replicate (limit - length its) no_item }
@@ -32,8 +23,7 @@ listed s = take s.count s.places
 
 -- every one is the zero item
 unfoldable pub all_zero_items : List Item → Bool
-all_zero_items [] = true
-all_zero_items (i ∷ its) = zero_item i && all_zero_items its
+all_zero_items = list_all zero_item
 
 -- at most 28 items, and zero items in the unused places
 unfoldable pub well_placed : Items → Bool

@@ -26,6 +26,7 @@ impl Content {
     }
 
     // Whether two to five groups give n content bits.
+    #[tactic(auto, unfolding(crate::specs::Content::content_length))]
     pub fn is_length(n: usize) -> bool
         ensures { result ≡ content_length n }
     {

@@ -20,6 +20,7 @@ impl Item {
     pub const LABEL_WIDTH: usize = 4;
 
     // Whether all its bits are zero.
+    #[tactic(auto, unfolding(crate::specs::Packing::zero_item))]
     pub fn is_zero(self) -> bool
         ensures { result ≡ zero_item self }
     {
@@ -27,13 +28,11 @@ impl Item {
     }
 
     // Whether the label has a width and the value is within it.
+    #[tactic(auto, unfolding(crate::specs::Packing::item_fits))]
     pub fn fits(self) -> bool
         ensures { result ≡ item_fits self }
     {
-        if self.label < Self::SUBLABELLED {
-            (self.value as u64) < bits::bytes::pow2(width_of(self.label))
-        } else {
-            false
-        }
+        self.label < Self::SUBLABELLED
+            && (self.value as u64) < bits::bytes::pow2(width_of(self.label))
     }
 }

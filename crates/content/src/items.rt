@@ -1,11 +1,12 @@
 // The items of one message by value: their number, and places of which the unused ones are zero.
-ghost use Rattle.std.specs.Prelude.{◌≡◌, [], ◌*◌, ◌≤◌, length};
+ghost use Rattle.std.specs.Prelude.{◌≡◌, [], ◌∷◌, ◌++◌, ◌<◌, ◌≤◌};
 ghost use Rattle.content.specs.Packing.{last_zero};
-ghost use Rattle.content.specs.Stored.{limit, filled, listed, in_cells, items_from, well_placed};
+ghost use Rattle.content.specs.Stored.{limit, filled, listed, all_zero_items, well_placed};
 
 use crate::item::Item;
 
-// The places stand first: a copy of them then goes piece by piece as they were written.
+// Items by value, in an array with their number, as the header has them: the memory is fixed. The places stand first: a copy of them then goes
+// piece by piece as they were written.
 #[repr(C)]
 #[derive(Clone, Copy)]
 pub struct Items {
@@ -17,10 +18,8 @@ impl Items {
     // The most items that content holds.
     pub const LIMIT: usize = 28;
 
-    // The numbers that places are: a label and a value each.
-    pub const CELLS: usize = 2 * Self::LIMIT;
-
     // No items.
+    #[tactic(auto, unfolding(crate::specs::Stored::filled))]
     pub fn new() -> Self
         ensures { result ≡ filled [] }
     {
@@ -29,33 +28,30 @@ impl Items {
         Items { count: 0, places }
     }
 
-    // The items of cells.
-    pub(crate) fn from_cells(count: usize, cells: &[u16; Items::CELLS]) -> Self
-        requires { length cells.now ≡ 2 * limit }
-        ensures { result ≡ in_cells count cells.now }
+    // Puts one item more into the first unused place.
+    pub(crate) fn push(&mut self, item: Item)
+        requires { (self.old.count < limit) × (filled (listed self.old) ≡ self.old) }
+        ensures { self.new ≡ filled (listed self.old ++ item ∷ []) }
     {
-        Items {
-            count,
-            places: places_in(cells),
-        }
+        self.places[self.count] = item;
+        self.count += 1;
+    }
+
+    // The items in use.
+    #[tactic(auto, unfolding(crate::specs::Stored::listed))]
+    pub fn listed(&self) -> &[Item]
+        requires { self.now.count ≤ limit }
+        ensures { result.now ≡ listed self.now }
+    {
+        &self.places[..self.count]
     }
 
     // Whether there are at most 28 and the unused places are zero.
+    #[tactic(auto, unfolding(crate::specs::Stored::well_placed))]
     pub fn well_placed(self) -> bool
         ensures { result ≡ well_placed self }
     {
-        let mut i = self.count;
-        if Self::LIMIT < i {
-            return false;
-        }
-        while i < Self::LIMIT {
-            let item = self.places[i];
-            if !item.is_zero() {
-                return false;
-            }
-            i += 1;
-        }
-        true
+        self.count <= Self::LIMIT && all_zero(&self.places[self.count..])
     }
 
     // Whether the last item is the zero item.
@@ -63,29 +59,17 @@ impl Items {
         requires { self.count ≤ limit }
         ensures { result ≡ last_zero (listed self) }
     {
-        let n = self.count;
-        if n == 0 {
-            return false;
+        match self.listed().last() {
+            Some(item) => item.is_zero(),
+            None => false,
         }
-        let last = self.places[n - 1];
-        last.is_zero()
     }
 }
 
-// The places of cells.
-fn places_in(cells: &[u16; Items::CELLS]) -> [Item; Items::LIMIT]
-    requires { length cells.now ≡ 2 * limit }
-    ensures { result ≡ items_from cells.now }
+// Whether every one is the zero item.
+#[tactic(auto, unfolding(crate::specs::Stored::all_zero_items))]
+fn all_zero(items: &[Item]) -> bool
+    ensures { result ≡ all_zero_items items.now }
 {
-    let none = Item { label: 0, value: 0 };
-    let mut places = [none; Items::LIMIT];
-    let mut i = 0;
-    while i < Items::LIMIT {
-        places[i] = Item {
-            label: cells[2 * i],
-            value: cells[2 * i + 1],
-        };
-        i += 1;
-    }
-    places
+    items.iter().all(|item| item.is_zero())
 }

@@ -1,58 +1,36 @@
 // The content bits of items.
-ghost use Rattle.std.specs.Prelude.{◌≡◌, List, [], ◌∷◌};
+ghost use Rattle.std.specs.Prelude.{◌≡◌, List, [], ◌∷◌, true};
+ghost use Rattle.refusal.specs.Checks.{must};
+ghost use Rattle.refusal.specs.declared.Refusal.TheVariants.{Unfit};
 ghost use Rattle.content.specs.Packing.{packable};
-ghost use Rattle.content.specs.Answers.{packed_of, packed, packed_if, unpacked, bits_packed};
+ghost use Rattle.content.specs.Answers.{packed_of, packed};
 ghost use Rattle.content.specs.declared.item.Item as declared;
 
 use crate::content::Content;
 use crate::item::Item;
 use crate::items::Items;
 use crate::width::width_of;
+use refusal::Refusal;
 
-// How many bits were packed, or the refusal's number.
-#[derive(Clone, Copy)]
-pub enum PackAnswer {
-    Packed(usize),
-    Refused(u8),
-}
-
-// The answer, and the bits beside it: zero after the items, and on a refusal.
+// How many bits were packed, and the bits: zero after the items.
 #[derive(Clone, Copy)]
 pub struct Packed {
-    pub answer: PackAnswer,
+    pub bits: usize,
     pub content: Content,
 }
 
-// Packs the items: 9 if one is out of range, they take over 112 bits, the last is the zero item, or an unused place is not zero.
-pub fn pack(items: Items) -> Packed
+// Packs the items: unfit if one is out of range, they take over 112 bits, the last is the zero item, or an unused place is not zero.
+pub fn pack(items: Items) -> Result<Packed, Refusal>
     ensures { result ≡ packed_of items }
 {
-    if !items.well_placed() {
-        return Packed::refused();
-    }
-    if items.ends_zero() {
-        return Packed::refused();
+    if !items.well_placed() || items.ends_zero() {
+        return Err(Refusal::Unfit);
     }
     let mut packed = Packed::new();
-    let mut i = items.count;
-    while 0 < i {
-        i -= 1;
-        let item = items.places[i];
-        packed = packed.prepended(item);
+    for i in (0..items.count).rev() {
+        packed = packed.prepended(items.places[i])?;
     }
-    packed
-}
-
-impl PackAnswer {
-    // How many bits were packed, 0 on a refusal.
-    pub fn bits(self) -> usize
-        ensures { result ≡ bits_packed self }
-    {
-        match self {
-            PackAnswer::Packed(n) => n,
-            PackAnswer::Refused(_) => 0,
-        }
-    }
+    Ok(packed)
 }
 
 impl Packed {
@@ -61,42 +39,27 @@ impl Packed {
         ensures { result ≡ packed [] }
     {
         Packed {
-            answer: PackAnswer::Packed(0),
+            bits: 0,
             content: Content::new(),
         }
     }
 
-    // Refusal 9, and no bits.
-    fn refused() -> Self
-        ensures { result ≡ unpacked 9 }
+    // With one item more, before those packed: unfit if it is out of range or there is no room for it.
+    fn prepended(self, item: Item) -> Result<Self, Refusal>
+        ensures { (its : List declared.Item) → packable its ≡ true → self ≡ packed its → result ≡ must (packable (item ∷ its)) Unfit (Ok (packed (item ∷ its))) }
     {
-        Packed {
-            answer: PackAnswer::Refused(9),
-            content: Content::new(),
-        }
-    }
-
-    // With one item more, before those packed; 9 if it is out of range or there is no room for it.
-    fn prepended(self, item: Item) -> Self
-        ensures { (its : List declared.Item) → self ≡ packed_if (packable its) its → result ≡ packed_if (packable (item ∷ its)) (item ∷ its) }
-    {
-        let answer = self.answer;
-        let PackAnswer::Packed(n) = answer else {
-            return self;
-        };
         if !item.fits() {
-            return Packed::refused();
+            return Err(Refusal::Unfit);
         }
         let w = width_of(item.label);
         let size = Item::LABEL_WIDTH + w;
-        if Content::LONGEST - size < n {
-            return Packed::refused();
+        if Content::LONGEST - size < self.bits {
+            return Err(Refusal::Unfit);
         }
-        let after = self.content;
-        let value = after.prefixed(w, item.value as u64);
-        Packed {
-            answer: PackAnswer::Packed(size + n),
+        let value = self.content.prefixed(w, item.value as u64);
+        Ok(Packed {
+            bits: size + self.bits,
             content: value.prefixed(Item::LABEL_WIDTH, item.label as u64),
-        }
+        })
     }
 }

@@ -3,6 +3,7 @@ ghost use Rattle.std.specs.Prelude.{◌≡◌, ◌≤◌};
 ghost use Rattle.content.specs.Widths.{width};
 
 // The bits of a label's value, 0 where no item has the label.
+#[tactic(auto, unfolding(crate::specs::Widths::width, crate::specs::Widths::widths))]
 pub fn width_of(label: u16) -> usize
     ensures { (result ≡ width label) × (result ≤ 16) }
 {

@@ -12,10 +12,8 @@ pub fn check_word(s: &[u8]) -> u16
     ensures { result ≡ check_word s.now }
 {
     let mut register = 0xFFFF;
-    let mut i = 0;
-    while i < s.len() {
-        register = with_byte(register, s[i]);
-        i += 1;
+    for byte in s {
+        register = with_byte(register, *byte);
     }
     register ^ 0xFFFF
 }
@@ -24,10 +22,8 @@ pub fn check_word(s: &[u8]) -> u16
 fn with_byte(mut register: u16, byte: u8) -> u16
     ensures { result ≡ entered register (bits 8 byte) }
 {
-    let mut left = 8u8;
-    while 0 < left {
-        left -= 1;
-        register = step(register, (byte >> left) % 2 == 1);
+    for i in (0..8u8).rev() {
+        register = step(register, (byte >> i) % 2 == 1);
     }
     register
 }

@@ -12,11 +12,13 @@ use borrow.Author.Tests.{leb-true}
 use Rattle.bits.specs.Bits.{val, all_zero}
 use Rattle.bits.specs.Fields.{flat, words}
 use Rattle.bits.specs.Overlay.{stretch}
-use Rattle.bits.specs.Checks.{must}
+use Rattle.refusal.specs.Checks.{must}
 use Rattle.bits.proofs.Fields.{length-flat}
-use Rattle.bits.proofs.Checks.{passed}
+use Rattle.refusal.proofs.Checks.{passed}
 use Rattle.drm.specs.Payload.{count_from, padding}
-use Rattle.drm.specs.Read.{words_refusal}
+use Rattle.drm.specs.Read.{test_words}
+use Rattle.std.specs.Prelude.{Ok}
+use Rattle.refusal.specs.declared.Refusal.TheVariants.{WrongLength, Reserved, SmallBuffer}
 
 -- word i of a run, and 0 after its last
 pub word_in : (w m i : ℕ) (l : List Bool) → i < m → get_or (words w m l) i 0 ≡ val (stretch (i * w) w l)
@@ -48,16 +50,15 @@ module _ (a : ℕ) (l : List Bool) (inside : a ≤ length l) where
       ap (λ (n : ℕ). stretch n ((length l - a) % 37) l) from
       ∙ take_all ((length l - a) % 37) (padding a l) (omega (arith, length-drop (a + count_from a l * 37) l, all-bits))
 
--- the checks as the code makes them, by the bytes
-pub checks : (a : ℕ) (p : List ℕ) (room : ℕ) → words_refusal a (flat 8 p) room ≡
-    must (leb a (length p * 8)) 1
-    (must (leb ((length p * 8 - a) % 37) 7) 1
-    (must (all_zero (padding a (flat 8 p))) 3
-    (must (leb ((length p * 8 - a) / 37) room) 15
-    0)))
-unfolding words_refusal
-checks a p room =
-    ap (λ (n : ℕ). must (leb a n) 1 (must (leb ((n - a) % 37) 7) 1 (must (all_zero (padding a (flat 8 p))) 3 (must (leb ((n - a) / 37) room) 15 0)))) (length-flat 8 p)
+-- the tests as the code makes them, by the bytes
+pub tests : (a : ℕ) (p : List ℕ) (room : ℕ) → test_words a (flat 8 p) room ≡
+    must (leb a (length p * 8)) WrongLength
+    (must (leb ((length p * 8 - a) % 37) 7) WrongLength
+    (must (all_zero (padding a (flat 8 p))) Reserved
+    (must (leb ((length p * 8 - a) / 37) room) SmallBuffer
+    (Ok tt))))
+unfolding test_words
+tests a p room = simp (length-flat 8 p)
 
 pub zeros : (a : ℕ) (p : List ℕ) → a ≤ length p * 8
     → all_zero (padding a (flat 8 p)) ≡ all_zero (stretch (length p * 8 - (length p * 8 - a) % 37) ((length p * 8 - a) % 37) (flat 8 p))
@@ -65,14 +66,14 @@ zeros a p h =
     sym (ap (λ (n : ℕ). all_zero (stretch (n - (n - a) % 37) ((n - a) % 37) (flat 8 p))) (sym (length-flat 8 p))
     ∙ ap all_zero (padding-stretch a (flat 8 p) (omega (arith, length-flat 8 p))))
 
--- words that are not refused lie within the bits, there is room for them, and at most 7 bits are left over
-pub words-fit : (a : ℕ) (l : List Bool) (room : ℕ) → words_refusal a l room ≡ 0 → (a ≤ length l) × (count_from a l ≤ room) × ((length l - a) % 37 ≤ 7)
-unfolding words_refusal
+-- words that pass lie within the bits, there is room for them, and at most 7 bits are left over
+pub words-fit : (a : ℕ) (l : List Bool) (room : ℕ) → test_words a l room ≡ Ok tt → (a ≤ length l) × (count_from a l ≤ room) × ((length l - a) % 37 ≤ 7)
+unfolding test_words
 words-fit a l room e =
-    let p = passed (leb a (length l)) 0 _ e in
-    let q = passed (leb ((length l - a) % 37) 7) 0 _ p.1 in
-    let r = passed (all_zero (padding a l)) 2 _ q.1 in (
+    let p = passed (leb a (length l)) WrongLength _ tt e in
+    let q = passed (leb ((length l - a) % 37) 7) WrongLength _ tt p.1 in
+    let r = passed (all_zero (padding a l)) Reserved _ tt q.1 in (
       leb-true a (length l) p.0,
-      leb-true (count_from a l) room (passed (leb (count_from a l) room) 14 0 r.1).0,
+      leb-true (count_from a l) room (passed (leb (count_from a l) room) SmallBuffer _ tt r.1).0,
       leb-true ((length l - a) % 37) 7 q.0,
     )

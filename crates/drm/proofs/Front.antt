@@ -1,24 +1,22 @@
 -- The start and the header as numbers, in 48 bits or more.
-use Prim.Native.Nat.{ℕ, ◌+◌, ◌/◌, ◌%◌, ◌^◌, ◌<◌, ◌≤◌}
+use Prim.Native.Nat.{ℕ, ◌+◌, ◌%◌, ◌^◌, ◌<◌, ◌≤◌}
 use native.Mathlib.Nat.{div-one, lt_of_lt_of_le}
 use native.Mathlib.Omega.{arith}
-use mathlib.Core.Path.{◌≡◌, sym, ap, ap₂, ◌∙◌}
+use mathlib.Core.Path.{◌≡◌, refl, ap, ◌∙◌}
 use mathlib.Core.Bool.{Bool, true, false, cond}
-use mathlib.Core.List.{List}
+use mathlib.Core.List.{List, [], ◌∷◌}
 use lib.ListN.{length, drop, length-take, length-drop}
 use lib.Seq.{length-take-le}
 use lib.Pow.{pow_mono}
 use lib.Dec.{eqb, lit<}
-use borrow.Author.Tests.{eq-eqb, ne_eqb}
 use Rattle.bits.specs.Bits.{bits, val}
 use Rattle.bits.specs.Fields.{flat, unpack}
 use Rattle.bits.specs.Overlay.{stretch}
-use Rattle.bits.proofs.Value.{val_lt, length-bits, bits-val}
+use Rattle.bits.proofs.Value.{val_lt, length-bits, bits-val, val-bits_lt}
 use Rattle.bits.proofs.Fields.{length-flat}
 use Rattle.bits.proofs.Formats.{unpack-val}
-use Rattle.drm.specs.Format.{start_format, tmchi_in, header_format, system_in}
-use Rattle.drm.specs.Payload.{start, tmchi, ua_flag, aid, header_at, header_bits, header, system_count}
-use Rattle.drm.specs.Read.{field_refusal}
+use Rattle.drm.specs.Format.{start_format, rfu_in, header_format, system_in}
+use Rattle.drm.specs.Payload.{start, tmchi, ua_flag, header_at, header_bits, header, system_count}
 
 pub bits_in : (p : List ℕ) → 6 ≤ length p → 48 ≤ length (flat 8 p)
 bits_in p h = omega (arith, length-flat 8 p)
@@ -46,16 +44,6 @@ module _ (l : List Bool) (long : 48 ≤ length l) where
   pub start_of : unpack start_format (bits 6 (val (stretch 0 6 l))) ≡ start l
   start_of = ap (unpack start_format) (bits-val (stretch 0 6 l) 6 start-length)
 
-  tmchi-of : tmchi l ≡ val (stretch 0 6 l) / 32 % 2
-  tmchi-of = ap tmchi_in (unpack-val start_format (stretch 0 6 l) start-length)
-
-  -- the test of TMCHI as the code makes it
-  pub no_header : (n : ℕ) → n ≡ val (stretch 0 6 l) → n / 32 % 2 ≡ 0 → eqb (tmchi l) 0 ≡ true
-  no_header n e h = eq-eqb _ _ (tmchi-of ∙ ap (λ (m : ℕ). m / 32 % 2) (sym e) ∙ h)
-
-  pub a_header : (n : ℕ) → n ≡ val (stretch 0 6 l) → (n / 32 % 2 ≡ 0 → ⊥) → eqb (tmchi l) 0 ≡ false
-  a_header n e h = ne_eqb _ _ (λ z. h (ap (λ (m : ℕ). m / 32 % 2) e ∙ sym tmchi-of ∙ z))
-
   pub flag_small : ua_flag l < 2
   unfolding ua_flag
   flag_small = bounded (eqb (tmchi l) 0) (val (stretch 7 1 l)) (field_lt 7 1 l)
@@ -70,10 +58,26 @@ module _ (l : List Bool) (long : 48 ≤ length l) where
   pub count_of : system_count l ≡ val (header_bits l) % 4
   count_of = ap system_in (unpack-val header_format (header_bits l) header-length) ∙ ap (λ (n : ℕ). n % 4) (div-one (val (header_bits l)))
 
-  -- the refusal of the fields, by their numbers
-  pub fields-of : (n s a h : ℕ) → s ≡ val (stretch 0 6 l) → a ≡ aid l → h ≡ val (header_bits l)
-      → n ≡ field_refusal (unpack start_format (bits 6 s)) a (unpack header_format (bits 24 h)) → n ≡ field_refusal (start l) (aid l) (header l)
-  fields-of n s a h es ea eh e =
-      e
-      ∙ ap₂ (λ (x : List ℕ) (y : ℕ). field_refusal x y (unpack header_format (bits 24 h))) (ap (λ (m : ℕ). unpack start_format (bits 6 m)) es ∙ start_of) ea
-      ∙ ap (field_refusal (start l) (aid l)) (ap (λ (m : ℕ). unpack header_format (bits 24 m)) eh ∙ header_of)
+-- TMCHI is the first bit
+pub first_bit : (l : List Bool) → tmchi l ≡ val (stretch 0 1 l)
+unfolding unpack
+first_bit [] = refl
+first_bit (b ∷ l) = refl
+
+-- and rfu the second
+pub second_bit : (l : List Bool) → rfu_in (start l) ≡ val (stretch 1 1 l)
+unfolding unpack
+second_bit [] = refl
+second_bit (b ∷ []) = refl
+second_bit (b ∷ d ∷ l) = refl
+
+pub bit_lt : (a : ℕ) (l : List Bool) → val (stretch a 1 l) < 2
+bit_lt a l = field_lt a 1 l
+
+-- no header is 0 as a number
+pub no_bits : val (bits 24 0) ≡ 0
+no_bits = val-bits_lt 24 0 (lit< tt)
+
+-- m of the bytes
+pub count_in : (p : List ℕ) → 6 ≤ length p → system_count (flat 8 p) ≡ val (header_bits (flat 8 p)) % 4
+count_in p h = count_of (flat 8 p) (bits_in p h)

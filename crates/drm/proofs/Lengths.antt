@@ -1,5 +1,5 @@
 -- What the length of a unit says of the number of its user words, whatever the unit holds.
-use Prim.Native.Nat.{ℕ, zero, suc, ◌+◌, ◌-◌, ◌*◌, ◌/◌, ◌%◌, ◌≤◌}
+use Prim.Native.Nat.{ℕ, ◌+◌, ◌-◌, ◌*◌, ◌/◌, ◌%◌, ◌≤◌}
 use native.Mathlib.Omega.{arith}
 use mathlib.Core.Path.{◌≡◌, refl, sym, ap, ◌∙◌}
 use mathlib.Core.Bool.{Bool, true, false}
@@ -8,63 +8,59 @@ use lib.ListN.{length}
 use lib.Dec.{eqb, leb}
 use borrow.Author.Tests.{eq-eqb, eqb-true, eqb-false, leb-true}
 use Rattle.bits.specs.Fields.{flat}
-use Rattle.bits.specs.Checks.{unless}
+use Rattle.std.specs.Prelude.{Ok}
 use Rattle.bits.proofs.Choice.{chosen, passed_over}
 use Rattle.bits.proofs.Fields.{length-flat}
-use Rattle.bits.proofs.Checks.{neither, passed}
+use Rattle.refusal.specs.declared.Refusal.TheVariants.{OtherKind, Reserved}
+use Rattle.refusal.proofs.Checks.{neither, passed}
 use Rattle.crc.specs.Block.{payload}
 use Rattle.crc.proofs.Blocks.{length-payload}
 use Rattle.drm.specs.declared.DataUnit.{DataUnit}
 use Rattle.drm.specs.declared.Reading.{Reading}
-use Rattle.drm.specs.declared.Reading.TheVariants.{Taken, Refused}
 use Rattle.drm.specs.Format.{rfu_in, alert_c}
-use Rattle.drm.specs.Payload.{start, tmchi, ua_flag, aid, header, system_count, system_at, system_words, words_at, count_from, unit_of}
-use Rattle.drm.specs.Read.{field_refusal, words_refusal, payload_refusal, unit_refusal, taken, read_unit}
+use Rattle.drm.specs.Payload.{start, tmchi, ua_flag, aid, header, system_count, system_at, words_at, count_from, unit_of}
+use Rattle.drm.specs.Read.{test_fields, test_words, test_payload, test_unit, taken, read_unit}
 use Rattle.drm.proofs.Body.{words-fit}
 use Rattle.drm.proofs.Front.{flag_small}
 use Rattle.drm.proofs.Whole.{accepted}
 
--- what is taken had no refusal
-not-refused : (k : ℕ) (r : Reading) (u : DataUnit) (n : ℕ) → unless Refused k r ≡ Taken u n → (k ≡ 0) × (r ≡ Taken u n)
-unfolding unless
-not-refused zero r u n e = (refl, e)
-not-refused (suc k) r u n e = let z : ◌≡◌ {A = ℕ} 0 1 = cc in absurd (omega arith)
-
-module _ (s : List ℕ) (room n : ℕ) (u : DataUnit) (e : read_unit s room ≡ Taken u n) where
+module _ (s : List ℕ) (room n : ℕ) (u : DataUnit) (e : read_unit s room ≡ Ok (record { unit = u; count = n })) where
   abbrev l : List Bool
   l = flat 8 (payload s)
 
-  got : (unit_refusal s room ≡ 0) × (taken l ≡ Taken u n)
+  got : (test_unit s room ≡ Ok tt) × (taken l ≡ record { unit = u; count = n })
   unfolding read_unit
-  got = not-refused (unit_refusal s room) (taken l) u n e
+  got =
+      let both = neither (test_unit s room) (Ok (taken l)) (record { unit = u; count = n }) e in
+      (both.0.1, cc both.1)
 
   bits_of : length l ≡ (length s - 2) * 8
   bits_of = length-flat 8 (payload s) ∙ ap (λ (m : ℕ). m * 8) (length-payload s)
 
-  checks : (field_refusal (start l) (aid l) (header l) ≡ 0) × (words_refusal (words_at l) l room ≡ 0)
-  unfolding payload_refusal
-  checks = neither _ _ (accepted s room got.0).1
+  tests : (test_fields (start l) (aid l) (header l) ≡ Ok tt) × (test_words (words_at l) l room ≡ Ok tt)
+  unfolding test_payload
+  tests =
+      let both = neither _ _ tt (accepted s room got.0).1 in
+      (both.0.1, both.1)
 
   fit : (words_at l ≤ length l) × (count_from (words_at l) l ≤ room) × ((length l - words_at l) % 37 ≤ 7)
-  fit = words-fit (words_at l) l room checks.1
+  fit = words-fit (words_at l) l room tests.1
 
   count : (length l - words_at l) / 37 ≡ n
   unfolding taken
-  count = cc got.1
+  count = ap (λ (r : Reading). r.count) got.1
 
   same-tmchi : tmchi l ≡ u.tmchi
   unfolding taken unit_of
-  same-tmchi =
-      let same : unit_of (start l) (header l) (system_words l) ≡ u = cc got.1 in
-      ap (λ (x : DataUnit). x.tmchi) same
+  same-tmchi = ap (λ (r : Reading). r.unit.tmchi) got.1
 
   -- a header has a system word
   some : tmchi l ≤ system_count l
-  unfolding field_refusal
+  unfolding test_fields
   some =
-      let p = passed (eqb (rfu_in (start l)) 0) 2 _ checks.0 in
-      let q = passed (eqb (aid l) alert_c) 1 _ p.1 in
-      leb-true (tmchi l) (system_count l) (passed (leb (tmchi l) (system_count l)) 2 0 q.1).0
+      let p = passed (eqb (rfu_in (start l)) 0) Reserved _ tt tests.0 in
+      let q = passed (eqb (aid l) alert_c) OtherKind _ tt p.1 in
+      leb-true (tmchi l) (system_count l) (passed (leb (tmchi l) (system_count l)) Reserved (Ok tt) tt q.1).0
 
   bare_at : tmchi l ≡ 0 → words_at l ≡ 6
   unfolding words_at

@@ -25,11 +25,11 @@ pub struct DataUnit {
     pub third: u16,
 }
 
+// A unit, and how many user words it carries.
 #[derive(Clone, Copy)]
-pub enum Reading {
-    // The unit, and how many user words it carries.
-    Taken { unit: DataUnit, count: usize },
-    Refused(u8),
+pub struct Reading {
+    pub unit: DataUnit,
+    pub count: usize,
 }
 
 impl DataUnit {
@@ -43,6 +43,8 @@ impl DataUnit {
     pub const UA_DATA: usize = 16;
 
     pub const HEADER: usize = 24;
+    // The bit at which rfu lies, after TMCHI.
+    pub const RFU_AT: usize = 1;
     // The bits at which the UA flag, after rfa, and the UA data lie. A header without UA data has its fields there.
     pub const UA_FLAG_AT: usize = DataUnit::START + 1;
 
@@ -51,8 +53,6 @@ impl DataUnit {
     pub const FRONT: usize = DataUnit::UA_DATA_AT + DataUnit::HEADER;
     // What one of a field counts, by the bits after it: in the start, where Short ID stands last, and in a header, where m does.
     pub const TMCHI_WEIGHT: u64 = 0x20;
-
-    pub const RFU_WEIGHT: u64 = 0x10;
 
     pub const SERVICES_WEIGHT: u64 = 0x10_0000;
 

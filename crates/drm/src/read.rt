@@ -1,11 +1,12 @@
-// A data unit read from its bytes: the checks in order, and then the fields and the user words.
-ghost use Rattle.std.specs.Prelude.{◌≡◌, ◌+◌, ◌*◌, ◌≤◌, ◌<◌, [], ◌∷◌, length, drop, get_or};
+// A data unit read from its bytes: the tests in order, and then the fields and the user words.
+// The functions take the bytes, and not a struct that borrows them, whose clauses would have to name a moment at each mention.
+ghost use Rattle.std.specs.Prelude.{◌≡◌, ◌+◌, ◌*◌, ◌≤◌, ◌<◌, [], ◌∷◌, length, drop, get_or, Ok};
 ghost use Rattle.bits.specs.Bits.{bits, val};
 ghost use Rattle.bits.specs.Fields.{flat, unpack, words};
 ghost use Rattle.drm.specs.Format.{start_width, start_format, header_width, header_format, system_width};
-ghost use Rattle.drm.specs.Payload.{start, ua_flag, aid, header_at, header as Payload·header, header_bits, system_words, words_at, unit_of};
+ghost use Rattle.drm.specs.Payload.{start, tmchi, ua_flag, aid, header_at, header as Payload·header, header_bits, system_count, system_words, words_at, unit_of};
 ghost use Rattle.crc.specs.Block.{payload};
-ghost use Rattle.drm.specs.Read.{field_refusal, words_refusal, payload_refusal, unit_refusal, taken as Read·taken, read_unit, words_after};
+ghost use Rattle.drm.specs.Read.{test_fields, test_words, test_payload, test_unit, taken, read_unit, words_after};
 
 use crate::{DataUnit, Reading};
 use bits::field::bits_at;
@@ -13,100 +14,106 @@ use bits::run::words_at;
 use bits::zero::zeros_at;
 use crc::block::{CHECK_LENGTH, is_checked};
 use lto::{FIELDS, half_hours};
+use refusal::Refusal;
 
 impl DataUnit {
-    // Reads a unit, and its user words into the first cells of a buffer. Refuses in this order: a length outside 8 to 128 (1), the
-    // check word (4), rfu (3), another AID (2), a header without system words (3), one that does not fit or more than 7 bits left
-    // over (1), padding (3), too small a buffer (15). A refusal leaves the buffer as it is.
-    pub fn read(s: &[u8], out: &mut [u64]) -> Reading
+    // Reads a unit, and its user words into the first cells of a buffer. Refuses in this order: a length outside 8 to 128, the check
+    // word, rfu, another AID, a header without system words, one that does not fit or more than 7 bits left over, padding, too small
+    // a buffer. A refusal leaves the buffer as it is.
+    #[tactic(auto, unfolding(crate::specs::Read::read_unit, crate::specs::Read::words_after))]
+    pub fn read(s: &[u8], out: &mut [u64]) -> Result<Reading, Refusal>
         ensures value { result ≡ read_unit s.now (length out.old) }
         ensures out_after { out.new ≡ words_after result (flat 8 (payload s.now)) out.old }
     {
-        let refused = unit_refusal(s, out.len());
-        if refused == 0 {
-            let end = s.len() - CHECK_LENGTH;
-            take_payload(&s[..end], out)
-        } else {
-            Reading::Refused(refused)
-        }
+        test_unit(s, out.len())?;
+        let end = s.len() - CHECK_LENGTH;
+        Ok(take_payload(&s[..end], out))
     }
 }
 
-// The refusal of a unit, 0 for none.
-fn unit_refusal(s: &[u8], room: usize) -> u8
-    ensures { result ≡ unit_refusal s.now room }
+// Tests the length, the check word, and what stands before it.
+#[tactic(auto, unfolding(crate::specs::Read::test_unit))]
+fn test_unit(s: &[u8], room: usize) -> Result<(), Refusal>
+    ensures { result ≡ test_unit s.now room }
 {
-    if (DataUnit::SHORTEST <= s.len()) & (s.len() <= DataUnit::LONGEST) {
-        if is_checked(s) {
-            let end = s.len() - CHECK_LENGTH;
-            payload_refusal(&s[..end], room)
-        } else {
-            4
-        }
-    } else {
-        1
+    if s.len() < DataUnit::SHORTEST || DataUnit::LONGEST < s.len() {
+        return Err(Refusal::WrongLength);
     }
+    if !is_checked(s) {
+        return Err(Refusal::WrongCheckWord);
+    }
+    let end = s.len() - CHECK_LENGTH;
+    test_payload(&s[..end], room)
 }
 
-// The refusal of the bytes before the check word, 0 for none.
-fn payload_refusal(p: &[u8], room: usize) -> u8
+// Tests the bytes before the check word.
+#[tactic(auto, unfolding(crate::specs::Read::test_payload))]
+fn test_payload(p: &[u8], room: usize) -> Result<(), Refusal>
     requires { (6 ≤ length p.now) × (length p.now ≤ 126) }
-    ensures { result ≡ payload_refusal (flat 8 p.now) room }
+    ensures { result ≡ test_payload (flat 8 p.now) room }
 {
-    let refused = field_refusal(bits_at(p, 0, DataUnit::START), aid_of(p), header_of(p));
-    if refused == 0 {
-        words_refusal(p, first_word(p), room)
-    } else {
-        refused
-    }
+    test_fields(p)?;
+    test_words(p, first_word(p), room)
 }
 
-// The refusal of the fields, 0 for none.
-fn field_refusal(start: u64, aid: u64, header: u64) -> u8
-    ensures { result ≡ field_refusal (unpack start_format (bits start_width start)) aid (unpack header_format (bits header_width header)) }
+// Tests rfu, the AID, and that a header has a system word.
+#[tactic(auto, using(crate::proofs::Front::second_bit), unfolding(crate::specs::Read::test_fields))]
+fn test_fields(p: &[u8]) -> Result<(), Refusal>
+    requires { 6 ≤ length p.now }
+    ensures { result ≡ test_fields (start (flat 8 p.now)) (aid (flat 8 p.now)) (Payload·header (flat 8 p.now)) }
 {
-    if start / DataUnit::RFU_WEIGHT % 2 != 0 {
-        return 3;
+    if bits_at(p, DataUnit::RFU_AT, 1) != 0 {
+        return Err(Refusal::Reserved);
     }
-    if aid != DataUnit::ALERT_C {
-        return 2;
+    if aid_of(p) != DataUnit::ALERT_C {
+        return Err(Refusal::OtherKind);
     }
-    if header % 4 < start / DataUnit::TMCHI_WEIGHT % 2 {
-        return 3;
+    if system_count(p) < tmchi(p) as usize {
+        return Err(Refusal::Reserved);
     }
-    0
+    Ok(())
 }
 
-// The refusal of user words from bit at on, 0 for none.
-fn words_refusal(p: &[u8], at: usize, room: usize) -> u8
+// Tests user words from bit at on, the padding after them, and the room for them.
+#[tactic(auto, using(crate::proofs::Body::tests, crate::proofs::Body::zeros))]
+fn test_words(p: &[u8], at: usize, room: usize) -> Result<(), Refusal>
     requires { length p.now ≤ 126 }
-    ensures { result ≡ words_refusal at (flat 8 p.now) room }
+    ensures { result ≡ test_words at (flat 8 p.now) room }
 {
     let total = p.len() * 8;
     if total < at {
-        return 1;
+        return Err(Refusal::WrongLength);
     }
     let left = (total - at) % DataUnit::WIDTH;
     if DataUnit::PADDING < left {
-        return 1;
+        return Err(Refusal::WrongLength);
     }
-    if zeros_at(p, total - left, left) {
-        if (total - at) / DataUnit::WIDTH <= room {
-            0
-        } else {
-            15
-        }
-    } else {
-        3
+    if !zeros_at(p, total - left, left) {
+        return Err(Refusal::Reserved);
     }
+    if room < (total - at) / DataUnit::WIDTH {
+        return Err(Refusal::SmallBuffer);
+    }
+    Ok(())
+}
+
+// TMCHI, 0 where there is no header.
+#[tactic(auto, using(crate::proofs::Front::first_bit))]
+fn tmchi(p: &[u8]) -> u64
+    requires { 6 ≤ length p.now }
+    ensures { result ≡ tmchi (flat 8 p.now) }
+{
+    bits_at(p, 0, 1)
 }
 
 // The UA flag, 0 where there is no header.
+#[tactic(auto, unfolding(crate::specs::Payload::ua_flag))]
 fn ua_flag(p: &[u8]) -> usize
     requires { 6 ≤ length p.now }
-    ensures { result ≡ ua_flag (flat 8 p.now) }
+    ensures value { result ≡ ua_flag (flat 8 p.now) }
+    ensures small { result < 2 }
 {
-    if bits_at(p, 0, DataUnit::START) / DataUnit::TMCHI_WEIGHT % 2 == 0 {
+    if tmchi(p) == 0 {
         0
     } else {
         bits_at(p, DataUnit::UA_FLAG_AT, 1) as usize
@@ -114,6 +121,7 @@ fn ua_flag(p: &[u8]) -> usize
 }
 
 // The application identifier.
+#[tactic(auto, unfolding(crate::specs::Payload::aid))]
 fn aid_of(p: &[u8]) -> u64
     requires { 6 ≤ length p.now }
     ensures { result ≡ aid (flat 8 p.now) }
@@ -128,46 +136,59 @@ fn aid_of(p: &[u8]) -> u64
 // The bit at which the fields of the header begin.
 fn header_at(p: &[u8]) -> usize
     requires { 6 ≤ length p.now }
-    ensures { result ≡ header_at (flat 8 p.now) }
+    ensures value { result ≡ header_at (flat 8 p.now) }
+    ensures early { result ≤ 24 }
 {
     DataUnit::UA_DATA_AT + ua_flag(p) * DataUnit::UA_DATA
 }
 
 // The fields of the header as one number, 0 where there is none.
+#[tactic(auto, using(crate::proofs::Front::no_bits), unfolding(crate::specs::Payload::header_bits))]
 fn header_of(p: &[u8]) -> u64
     requires { 6 ≤ length p.now }
     ensures { result ≡ val (header_bits (flat 8 p.now)) }
 {
-    if bits_at(p, 0, DataUnit::START) / DataUnit::TMCHI_WEIGHT % 2 == 0 {
+    if tmchi(p) == 0 {
         0
     } else {
         bits_at(p, header_at(p), DataUnit::HEADER)
     }
 }
 
+// How many system words there are.
+#[tactic(auto, using(crate::proofs::Front::count_in))]
+fn system_count(p: &[u8]) -> usize
+    requires { 6 ≤ length p.now }
+    ensures value { result ≡ system_count (flat 8 p.now) }
+    ensures few { result < 4 }
+{
+    (header_of(p) % 4) as usize
+}
+
 // The bit at which the user words begin.
+#[tactic(auto, unfolding(crate::specs::Payload::words_at))]
 fn first_word(p: &[u8]) -> usize
     requires { 6 ≤ length p.now }
     ensures { result ≡ words_at (flat 8 p.now) }
 {
-    if bits_at(p, 0, DataUnit::START) / DataUnit::TMCHI_WEIGHT % 2 == 0 {
+    if tmchi(p) == 0 {
         DataUnit::START
     } else {
-        header_at(p) + DataUnit::HEADER + (header_of(p) % 4) as usize * DataUnit::SYSTEM_WIDTH
+        header_at(p) + DataUnit::HEADER + system_count(p) * DataUnit::SYSTEM_WIDTH
     }
 }
 
 // The unit, and its user words into the first cells of a buffer.
 fn take_payload(p: &[u8], out: &mut [u64]) -> Reading
-    requires { (6 ≤ length p.now) × (length p.now ≤ 126) × (payload_refusal (flat 8 p.now) (length out.old) ≡ 0) }
-    ensures value { result ≡ Read·taken (flat 8 p.now) }
-    ensures out_after { out.new ≡ words_after result (flat 8 p.now) out.old }
+    requires { (6 ≤ length p.now) × (length p.now ≤ 126) × (test_payload (flat 8 p.now) (length out.old) ≡ Ok tt) }
+    ensures value { result ≡ taken (flat 8 p.now) }
+    ensures out_after { out.new ≡ words_after (Ok result) (flat 8 p.now) out.old }
 {
     let unit = unit_in(p);
     let at = first_word(p);
     let count = (p.len() * 8 - at) / DataUnit::WIDTH;
     words_at(p, at, DataUnit::WIDTH, &mut out[..count]);
-    Reading::Taken { unit, count }
+    Reading { unit, count }
 }
 
 // The unit without its user words.
@@ -176,7 +197,7 @@ fn unit_in(p: &[u8]) -> DataUnit
     ensures { result ≡ unit_of (start (flat 8 p.now)) (Payload·header (flat 8 p.now)) (system_words (flat 8 p.now)) }
 {
     let header = header_of(p);
-    let m = (header % 4) as usize;
+    let m = system_count(p);
     let at = header_at(p) + DataUnit::HEADER;
     unit_of(
         bits_at(p, 0, DataUnit::START),
@@ -200,6 +221,7 @@ fn system_word(p: &[u8], at: usize, m: usize, i: usize) -> u16
 }
 
 // The unit of a start, a header and system words.
+#[tactic(auto, unfolding(crate::specs::Payload::unit_of))]
 fn unit_of(start: u64, header: u64, first: u16, second: u16, third: u16) -> DataUnit
     ensures { result ≡ unit_of (unpack start_format (bits start_width start)) (unpack header_format (bits header_width header)) (first ∷ second ∷ third ∷ []) }
 {

@@ -15,8 +15,7 @@ use Rattle.bits.proofs.Fields.{length-flat, take-flat}
 use Rattle.bits.proofs.Formats.{length-pack, val-pack}
 use Rattle.drm.specs.declared.DataUnit.{DataUnit}
 use Rattle.drm.specs.Format.{start_format, header_format}
-use Rattle.lto.specs.Offset.{lto_field}
-use Rattle.drm_write.specs.Write.{start_values, header_values, system_fields, front_width, front_bits, laid, payload_bits}
+use Rattle.drm_write.specs.Write.{start_values, offset, header_values, system_fields, front_width, front_bits, laid, payload_bits}
 
 module _ (u : DataUnit) (s : fits start_format (start_values u) ≡ true) (h : fits header_format (header_values u) ≡ true) where
   start-length : length (pack start_format (start_values u)) ≡ 6
@@ -43,7 +42,7 @@ module _ (u : DataUnit) (s : fits start_format (start_values u) ≡ true) (h : f
       e ∙ sym (ap val (chosen _ _ _ (eq-eqb u.tmchi 0 z)))
 
   pub headed_number : (u.tmchi ≡ 0 → ⊥)
-      → 0x80000000 + u.id * 0x4000000 + u.services * 0x100000 + u.country * 0x10000 + u.ecc * 0x100 + lto_field u.lto * 4 + u.system ≡ val (front_bits u)
+      → 0x80000000 + u.id * 0x4000000 + u.services * 0x100000 + u.country * 0x10000 + u.ecc * 0x100 + offset u * 4 + u.system ≡ val (front_bits u)
   unfolding front_bits
   headed_number z =
       let a = pack start_format (start_values u) in
@@ -53,7 +52,7 @@ module _ (u : DataUnit) (s : fits start_format (start_values u) ≡ true) (h : f
       val-append a after
       ∙ ap₂ (λ (m n : ℕ). val a * 2 ^ m + n) after-length
       (val-append (bits 2 0) b ∙ ap₂ (λ (m n : ℕ). m * 2 ^ n + val b) (val-bits_lt 2 0 (lit< tt)) header-length) in
-      let e : 0x80000000 + u.id * 0x4000000 + u.services * 0x100000 + u.country * 0x10000 + u.ecc * 0x100 + lto_field u.lto * 4 + u.system ≡ val (a ++ after) =
+      let e : 0x80000000 + u.id * 0x4000000 + u.services * 0x100000 + u.country * 0x10000 + u.ecc * 0x100 + offset u * 4 + u.system ≡ val (a ++ after) =
       omega (arith, whole, val-pack start_format (start_values u) s, val-pack header_format (header_values u) h) in
       e ∙ sym (ap val (passed_over _ _ _ (ne_eqb u.tmchi 0 z)))
 

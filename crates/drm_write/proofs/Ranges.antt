@@ -5,14 +5,20 @@ use mathlib.Core.Path.{◌≡◌, refl, sym, ap, ◌∙◌}
 use mathlib.Core.Bool.{Bool, true, false, ◌&&◌, ◌||◌, cond}
 use lib.Dec.{leb, ltb, eqb, lit≤}
 use borrow.Author.Tests.{leb-true, leb-false, le-leb, lt-leb, eqb-true, eqb-false, eq-eqb, ne_eqb, ltb-true, lt-ltb}
+use lib.IntN.{ℤ, pos, negsuc, nat_abs}
+use Rattle.std.specs.Prelude.{is_some}
 use Rattle.bits.specs.Fields.{fits}
 use Rattle.bits.proofs.Choice.{and_left, and_right, chosen, passed_over}
 use Rattle.drm.specs.declared.DataUnit.{DataUnit}
 use Rattle.drm.specs.Format.{start_format, header_format}
 use Rattle.lto.specs.Offset.{lto_field}
 use Rattle.drm_write.specs.Allowed.{Bare, Headed}
-use Rattle.drm_write.specs.Write.{start_values, header_values, bare_fits, headed_fits, header_fits, fields_fit, front_width, unit_length, unit_fits}
-use Rattle.lto.proofs.Signed.{field_zero, field_near, near_field}
+use Rattle.drm_write.specs.Write.{start_values, offset, header_values, bare_fits, headed_fits, header_fits, fields_fit, front_width, unit_length, unit_fits}
+use Rattle.lto.proofs.Ranges.{field_near, near_field, value_small}
+
+zero_lto : (z : ℤ) → nat_abs z ≡ 0 → z ≡ pos 0
+zero_lto (pos n) e = cc
+zero_lto (negsuc n) e = absurd (omega arith)
 
 either : (t : Bool) → (6 ≤ cond t 6 32) × (cond t 6 32 ≤ 32)
 either true = (lit≤ tt, lit≤ tt)
@@ -45,7 +51,7 @@ bare_parts u n e =
     let a = eqb u.services 0 in
     let b = a && eqb u.country 0 in
     let c = b && eqb u.ecc 0 in
-    let d = c && eqb (lto_field u.lto) 0 in
+    let d = c && eqb (nat_abs u.lto) 0 in
     let f = d && eqb u.system 0 in
     let g = f && eqb u.first 0 in
     let h = g && eqb u.second 0 in
@@ -55,13 +61,13 @@ bare_parts u n e =
     let eg = and_left g (eqb u.second 0) eh in
     let ef = and_left f (eqb u.first 0) eg in
     let ed = and_left d (eqb u.system 0) ef in
-    let ec = and_left c (eqb (lto_field u.lto) 0) ed in
+    let ec = and_left c (eqb (nat_abs u.lto) 0) ed in
     let eb = and_left b (eqb u.ecc 0) ec in
     record {
       services = eqb-true u.services 0 (and_left a (eqb u.country 0) eb);
       country = eqb-true u.country 0 (and_right a (eqb u.country 0) eb);
       ecc = eqb-true u.ecc 0 (and_right b (eqb u.ecc 0) ec);
-      lto = field_zero u.lto (eqb-true (lto_field u.lto) 0 (and_right c (eqb (lto_field u.lto) 0) ed));
+      lto = zero_lto u.lto (eqb-true (nat_abs u.lto) 0 (and_right c (eqb (nat_abs u.lto) 0) ed));
       system = eqb-true u.system 0 (and_right d (eqb u.system 0) ef);
       first = eqb-true u.first 0 (and_right f (eqb u.first 0) eg);
       second = eqb-true u.second 0 (and_right g (eqb u.second 0) eh);
@@ -70,7 +76,7 @@ bare_parts u n e =
     }
 
 bare-fits : (u : DataUnit) (n : ℕ) → Bare u n → bare_fits u n ≡ true
-unfolding bare_fits lto_field
+unfolding bare_fits
 bare-fits u n b = rw (b.services, b.country, b.ecc, b.lto, b.system, b.first, b.second, b.third) (le-leb 1 n b.some)
 
 -- with one
@@ -79,7 +85,7 @@ unfolding headed_fits
 headed_parts u e =
     let a = ltb u.services 16 in
     let b = a && ltb u.country 16 in
-    let c = b && ltb (lto_field u.lto) 64 in
+    let c = b && is_some (lto_field u.lto) in
     let d = c && leb 1 u.system in
     let f = d && leb u.system 3 in
     let g = f && (leb 2 u.system || eqb u.second 0) in
@@ -87,11 +93,11 @@ headed_parts u e =
     let ef = and_left f (leb 2 u.system || eqb u.second 0) eg in
     let ed = and_left d (leb u.system 3) ef in
     let ec = and_left c (leb 1 u.system) ed in
-    let eb = and_left b (ltb (lto_field u.lto) 64) ec in
+    let eb = and_left b (is_some (lto_field u.lto)) ec in
     record {
       services = ltb-true u.services 16 (and_left a (ltb u.country 16) eb);
       country = ltb-true u.country 16 (and_right a (ltb u.country 16) eb);
-      lto = field_near u.lto (ltb-true (lto_field u.lto) 64 (and_right b (ltb (lto_field u.lto) 64) ec));
+      lto = field_near u.lto (and_right b (is_some (lto_field u.lto)) ec);
       some = leb-true 1 u.system (and_right c (leb 1 u.system) ed);
       few = leb-true u.system 3 (and_right d (leb u.system 3) ef);
       second = unused 2 u.system u.second (and_right f (leb 2 u.system || eqb u.second 0) eg);
@@ -104,7 +110,7 @@ headed-fits u h =
     rw (
       lt-ltb u.services 16 h.services,
       lt-ltb u.country 16 h.country,
-      lt-ltb (lto_field u.lto) 64 (near_field u.lto h.lto),
+      near_field u.lto h.lto,
       le-leb 1 u.system h.some,
       le-leb u.system 3 h.few,
       in_use 2 u.system u.second h.second,
@@ -115,20 +121,20 @@ headed-fits u h =
 pub record Ranges (u : DataUnit) : Type 0 where
   pub services : u.services < 16
   pub country : u.country < 16
-  pub offset : lto_field u.lto < 64
+  pub lto : nat_abs u.lto < 32
   pub system : u.system ≤ 3
 
 header_ranges : (u : DataUnit) (n : ℕ) → header_fits u n ≡ true → Ranges u
-unfolding header_fits lto_field
+unfolding header_fits
 header_ranges u n e = by (eqb u.tmchi 0) refl
   where
     by : (t : Bool) → eqb u.tmchi 0 ≡ t → Ranges u
     by true z =
         let b = bare_parts u n (sym (chosen _ _ _ z) ∙ e) in
-        record { services = omega (arith, b.services); country = omega (arith, b.country); offset = omega (arith, ap lto_field b.lto); system = omega (arith, b.system) }
+        record { services = omega (arith, b.services); country = omega (arith, b.country); lto = omega (arith, ap nat_abs b.lto); system = omega (arith, b.system) }
     by false z =
         let h = headed_parts u (sym (passed_over _ _ _ z) ∙ e) in
-        record { services = h.services; country = h.country; offset = near_field u.lto h.lto; system = h.few }
+        record { services = h.services; country = h.country; lto = h.lto; system = h.few }
 
 module _ (u : DataUnit) (n : ℕ) (fit : unit_fits u n ≡ true) where
   fields_part : fields_fit u n ≡ true
@@ -180,7 +186,7 @@ module _ (u : DataUnit) (n : ℕ) (fit : unit_fits u n ≡ true) where
   header-fits ecc =
       let r = ranges in
       let m : u.system < 4 = omega (arith, r.system) in
-      simp (lt-ltb u.services 16 r.services, lt-ltb u.country 16 r.country, lt-ltb u.ecc 256 ecc, lt-ltb (lto_field u.lto) 64 r.offset, lt-ltb u.system 4 m)
+      simp (lt-ltb u.services 16 r.services, lt-ltb u.country 16 r.country, lt-ltb u.ecc 256 ecc, lt-ltb (offset u) 64 (value_small u.lto), lt-ltb u.system 4 m)
 
 -- and so the tests hold of every unit that the rules allow
 pub unit_allowed : (u : DataUnit) (n : ℕ) → u.tmchi < 2 → u.id < 16 → (u.tmchi ≡ 0 → Bare u n) → (u.tmchi ≡ 1 → Headed u) → unit_length u n ≤ 128 → unit_fits u n ≡ true

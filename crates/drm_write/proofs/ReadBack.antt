@@ -6,7 +6,8 @@ use mathlib.Core.Bool.{Bool, true, false}
 use mathlib.Core.List.{List, [], ◌∷◌, ◌++◌, append_assoc}
 use lib.ListN.{length, take, drop, get_or}
 use lib.Seq.{take_at, drop_at, drop-drop, length-take-le}
-use lib.IntN.{ℤ}
+use lib.IntN.{ℤ, nat_abs}
+use Rattle.std.specs.Prelude.{Ok, unwrap_or}
 use lib.Dec.{ltb, eqb, lit<}
 use borrow.Author.Tests.{eqb-true, ltb-true, le-leb}
 use Rattle.bits.specs.Bits.{bit, num, bits, val}
@@ -19,10 +20,9 @@ use Rattle.bits.proofs.Formats.{length-pack, unpack-bits, unpack-pack}
 use Rattle.drm.specs.declared.DataUnit.{DataUnit}
 use Rattle.drm.specs.Format.{start_format, tmchi_in, header_format, system_in, alert_c}
 use Rattle.lto.specs.Offset.{lto_field}
-use Rattle.lto.proofs.Signed.{field_near}
-use Rattle.lto.proofs.WayBack.{write_read}
+use Rattle.lto.proofs.WayBack.{value_back}
 use Rattle.drm.specs.Payload.{start, tmchi, ua_flag, aid, header_at, header_bits, header, system_count, system_at, system_words, words_at, unit_of}
-use Rattle.drm.specs.Read.{field_refusal}
+use Rattle.drm.specs.Read.{test_fields}
 use Rattle.drm_write.specs.Allowed.{Bare, Headed, Typed}
 use Rattle.drm_write.specs.Write.{start_values, header_values, system_fields, front_width, lead, front_bits}
 
@@ -93,7 +93,7 @@ module _ (u : DataUnit) (s : fits start_format (start_values u) ≡ true) (h : f
         ∙ sym (ap₂ (λ (a : ℕ) (l : List ℕ). a ∷ l) b.services
         (ap₂ (λ (a : ℕ) (l : List ℕ). a ∷ l) b.country
         (ap₂ (λ (a : ℕ) (l : List ℕ). a ∷ l) b.ecc
-        (ap₂ (λ (a m : ℕ). a ∷ m ∷ []) (ap lto_field b.lto) b.system))))
+        (ap₂ (λ (a m : ℕ). a ∷ m ∷ []) (ap (λ (z : ℤ). unwrap_or (lto_field z) 0) b.lto) b.system))))
 
     bare-system : system_words bl ≡ take u.system (system_fields u)
     unfolding words
@@ -220,7 +220,7 @@ module _ (u : DataUnit) (s : fits start_format (start_values u) ≡ true) (h : f
     }
 
 -- the unit comes back from its fields
-pub unit_back : (u : DataUnit) (l : List Bool) → Back u l → lto_field u.lto < 64 → unit_of (start l) (header l) (system_words l) ≡ u
+pub unit_back : (u : DataUnit) (l : List Bool) → Back u l → nat_abs u.lto < 32 → unit_of (start l) (header l) (system_words l) ≡ u
 unfolding unit_of
 unit_back u l b small =
     let make : ℤ → ℕ → ℕ → ℕ → DataUnit = λ z x y w. record {
@@ -238,13 +238,13 @@ unit_back u l b small =
     let some = take u.system (system_fields u) in
     ap₂ (λ (f g : List ℕ). unit_of f g (system_words l)) b.start_back b.header_back
     ∙ ap (unit_of (start_values u) (header_values u)) b.system_back
-    ∙ ap₂ (λ (z : ℤ) (x : ℕ). make z x (get_or some 1 0) (get_or some 2 0)) (write_read u.lto (field_near u.lto small)) b.fields_back.0
+    ∙ ap₂ (λ (z : ℤ) (x : ℕ). make z x (get_or some 1 0) (get_or some 2 0)) (value_back u.lto small) b.fields_back.0
     ∙ ap₂ (λ (y w : ℕ). make u.lto u.first y w) b.fields_back.1 b.fields_back.2
 
 -- and no field of it is refused
-pub fields_pass : (u : DataUnit) (l : List Bool) → Back u l → field_refusal (start l) (aid l) (header l) ≡ 0
-unfolding field_refusal
+pub fields_pass : (u : DataUnit) (l : List Bool) → Back u l → test_fields (start l) (aid l) (header l) ≡ Ok tt
+unfolding test_fields
 fields_pass u l b =
-    ap₂ (λ (f : List ℕ) (a : ℕ). field_refusal f a (header l)) b.start_back b.aid_back
-    ∙ ap (field_refusal (start_values u) alert_c) b.header_back
+    ap₂ (λ (f : List ℕ) (a : ℕ). test_fields f a (header l)) b.start_back b.aid_back
+    ∙ ap (test_fields (start_values u) alert_c) b.header_back
     ∙ chosen _ _ _ (le-leb u.tmchi u.system b.order)

@@ -1,17 +1,18 @@
--- A unit is written exactly if a writer may write it and there is room. Here n is the length that the code has found.
-use Prim.Native.Nat.{ℕ, ◌≤◌, ◌<◌}
-use mathlib.Core.Path.{◌≡◌, sym, ap, ◌∙◌}
-use mathlib.Core.Bool.{true, false}
-use mathlib.Core.List.{List, ◌++◌}
-use lib.ListN.{length, drop}
+-- What may be written, and its parts.
+use Prim.Native.Nat.{ℕ}
+use mathlib.Core.Path.{◌≡◌}
+use mathlib.Core.Bool.{true}
+use mathlib.Core.List.{List}
+use lib.ListN.{length}
 use lib.Dec.{leb}
-use borrow.Author.Tests.{le-leb, lt-leb}
-use Rattle.bits.proofs.Choice.{and_left, and_right, chosen, passed_over}
+use Rattle.std.specs.Prelude.{Ok}
+use Rattle.refusal.specs.declared.Refusal.TheVariants.{Unfit, SmallBuffer}
+use Rattle.refusal.proofs.Checks.{written_passed}
+use Rattle.bits.proofs.Choice.{and_left, and_right}
 use Rattle.drm.specs.declared.DataUnit.{DataUnit}
-use Rattle.bits.specs.declared.Writing.TheVariants.{Written, Refused}
 use Rattle.report.specs.Read.{read_report}
 use Rattle.messages.specs.Messages.{whole}
-use Rattle.drm_write.specs.Write.{unit_length, unit_fits, can_write, unit_bytes, write_unit, bytes_after}
+use Rattle.drm_write.specs.Write.{unit_length, unit_fits, can_write, write_unit}
 
 module _ (u : DataUnit) (ws : List ℕ) where
   pub fitting : can_write u ws ≡ true → unit_fits u (length ws) ≡ true
@@ -22,20 +23,7 @@ module _ (u : DataUnit) (ws : List ℕ) where
   unfolding can_write
   whole_part e = and_right (unit_fits u (length ws)) (whole read_report ws) e
 
-  module _ (room n : ℕ) (e : n ≡ unit_length u (length ws)) where
-    pub written : can_write u ws ≡ true → n ≤ room → Written n ≡ write_unit u ws room
-    unfolding write_unit
-    written f r = ap Written e ∙ sym (chosen _ _ _ f ∙ chosen _ _ _ (ap (λ (m : ℕ). leb m room) (sym e) ∙ le-leb n room r))
-
-    pub no_room : can_write u ws ≡ true → room < n → Refused 15 ≡ write_unit u ws room
-    unfolding write_unit
-    no_room f r = sym (chosen _ _ _ f ∙ passed_over _ _ _ (ap (λ (m : ℕ). leb m room) (sym e) ∙ lt-leb n room r))
-
-  pub unfit : (room : ℕ) → can_write u ws ≡ false → Refused 9 ≡ write_unit u ws room
+  -- what is written may be written, and n is its length
+  pub written_can : (room n : ℕ) → write_unit u ws room ≡ Ok n → (can_write u ws ≡ true) × (unit_length u (length ws) ≡ n)
   unfolding write_unit
-  unfit room e = sym (passed_over _ _ _ e)
-
--- p is what stands in the first cells afterwards
-pub written-bytes : (u : DataUnit) (ws out : List ℕ) (n : ℕ) (p : List ℕ) → p ≡ unit_bytes u ws → p ++ drop n out ≡ bytes_after (Written n) u ws out
-unfolding bytes_after
-written-bytes u ws out n p e = ap (λ (l : List ℕ). l ++ drop n out) e
+  written_can room n e = written_passed (can_write u ws) (leb (unit_length u (length ws)) room) (unit_length u (length ws)) n SmallBuffer Unfit e

@@ -1,11 +1,12 @@
 -- The bytes of a DRM data unit in a lent buffer (document 01, "DRM"; source 002, clause 5).
-use Rattle.std.specs.Prelude.{ℕ, ◌+◌, ◌-◌, ◌*◌, ◌/◌, Bool, ◌&&◌, ◌||◌, cond, List, [], ◌∷◌, ◌++◌, length, take, drop, leb, ltb, eqb}
+use Rattle.std.specs.Prelude.{ℕ, ◌+◌, ◌-◌, ◌*◌, ◌/◌, Bool, ◌&&◌, ◌||◌, cond, List, [], ◌∷◌, ◌++◌, length, take, drop, leb, ltb, eqb, nat_abs, is_some, unwrap_or, Result, Ok, Err}
 use Rattle.bits.specs.Bits.{bits}
 use Rattle.bits.specs.Fields.{flat, words, pack}
 use Rattle.drm.specs.declared.DataUnit.{DataUnit}
 use Rattle.crc.specs.Block.{check_length, checked}
-use Rattle.bits.specs.declared.Writing.{Writing}
-use Rattle.bits.specs.declared.Writing.TheVariants.{Written, Refused}
+use Rattle.refusal.specs.declared.Refusal.{Refusal}
+use Rattle.refusal.specs.declared.Refusal.TheVariants.{Unfit, SmallBuffer}
+use Rattle.refusal.specs.Checks.{must}
 use Rattle.drm.specs.Format.{longest, word_width, system_width, start_width, ua_at, header_width, start_format, header_format}
 use Rattle.lto.specs.Offset.{lto_field}
 use Rattle.report.specs.Read.{read_report}
@@ -15,9 +16,13 @@ use Rattle.messages.specs.Messages.{whole}
 abbrev pub start_values : DataUnit → List ℕ
 start_values u = u.tmchi ∷ 0 ∷ u.id ∷ []
 
+-- the field of the LTO; 0 stands for one out of range, which no unit that is written has
+abbrev pub offset : DataUnit → ℕ
+offset u = unwrap_or (lto_field u.lto) 0
+
 -- number of services, Country, ECC, LTO, m
 abbrev pub header_values : DataUnit → List ℕ
-header_values u = u.services ∷ u.country ∷ u.ecc ∷ lto_field u.lto ∷ u.system ∷ []
+header_values u = u.services ∷ u.country ∷ u.ecc ∷ offset u ∷ u.system ∷ []
 
 -- the system words of the struct
 abbrev pub system_fields : DataUnit → List ℕ
@@ -26,13 +31,13 @@ system_fields u = u.first ∷ u.second ∷ u.third ∷ []
 -- without a header there is no field of one, and a user word or more
 unfoldable pub bare_fits : DataUnit → ℕ → Bool
 bare_fits u n =
-    eqb u.services 0 && eqb u.country 0 && eqb u.ecc 0 && eqb (lto_field u.lto) 0 && eqb u.system 0
+    eqb u.services 0 && eqb u.country 0 && eqb u.ecc 0 && eqb (nat_abs u.lto) 0 && eqb u.system 0
     && eqb u.first 0 && eqb u.second 0 && eqb u.third 0 && leb 1 n
 
 -- a header's fields in their ranges, one to three system words, and 0 for those not in use
 unfoldable pub headed_fits : DataUnit → Bool
 headed_fits u =
-    ltb u.services 16 && ltb u.country 16 && ltb (lto_field u.lto) 64 && leb 1 u.system && leb u.system 3
+    ltb u.services 16 && ltb u.country 16 && is_some (lto_field u.lto) && leb 1 u.system && leb u.system 3
     && (leb 2 u.system || eqb u.second 0) && (leb 3 u.system || eqb u.third 0)
 
 -- the fields that go with TMCHI
@@ -89,14 +94,14 @@ payload_bits u ws =
 unfoldable pub unit_bytes : DataUnit → List ℕ → List ℕ
 unit_bytes u ws = checked (words 8 (payload_length u (length ws)) (payload_bits u ws))
 
--- a unit that a writer refuses (9), and then too small a buffer (15)
-unfoldable pub write_unit : DataUnit → List ℕ → ℕ → Writing
+-- a unit that a writer refuses, and then too small a buffer
+unfoldable pub write_unit : DataUnit → List ℕ → ℕ → Result ℕ Refusal
 write_unit u ws room =
-    cond (can_write u ws)
-    (cond (leb (unit_length u (length ws)) room) (Written (unit_length u (length ws))) (Refused 15))
-    (Refused 9)
+    must (can_write u ws) Unfit
+    (must (leb (unit_length u (length ws)) room) SmallBuffer
+    (Ok (unit_length u (length ws))))
 
 -- the buffer afterwards: the first cells hold the unit and later cells stay; a refusal leaves it
-unfoldable pub bytes_after : Writing → DataUnit → List ℕ → List ℕ → List ℕ
-bytes_after (Written n) u ws out = unit_bytes u ws ++ drop n out
-bytes_after (Refused n) u ws out = out
+unfoldable pub bytes_after : Result ℕ Refusal → DataUnit → List ℕ → List ℕ → List ℕ
+bytes_after (Ok n) u ws out = unit_bytes u ws ++ drop n out
+bytes_after (Err e) u ws out = out

@@ -1,8 +1,9 @@
 // The bytes of a unit.
-ghost use Rattle.std.specs.Prelude.{◌≡◌, true, ◌+◌, ◌*◌, ◌/◌, ◌≤◌, length};
+ghost use Rattle.std.specs.Prelude.{◌≡◌, true, ◌+◌, ◌*◌, ◌/◌, ◌≤◌, length, IsSome};
 ghost use Rattle.bits.specs.Bits.{val};
 ghost use Rattle.bits.specs.Fields.{flat, fits as Fields·fits, words as Fields·words};
 ghost use Rattle.drm.specs.Format.{start_format, header_format};
+ghost use Rattle.lto.specs.Offset.{lto_field as Offset·lto_field};
 ghost use Rattle.drm_write.specs.Write.{start_values, header_values, system_fields, payload_length, unit_length, unit_fits, front_bits, laid, payload_bits, unit_bytes};
 
 use crate::fits::front_width;
@@ -49,7 +50,7 @@ fn fill_payload(s: &mut [u8], unit: DataUnit, words: &[u64])
 
 // The start and, with a header, its fields, as one number.
 fn front_number(unit: DataUnit) -> u64
-    requires { (Fields·fits start_format (start_values unit) ≡ true) × (Fields·fits header_format (header_values unit) ≡ true) }
+    requires { (Fields·fits start_format (start_values unit) ≡ true) × (Fields·fits header_format (header_values unit) ≡ true) × IsSome (Offset·lto_field unit.lto) }
     ensures { result ≡ val (front_bits unit) }
 {
     if unit.tmchi == 0 {
@@ -60,7 +61,7 @@ fn front_number(unit: DataUnit) -> u64
             + unit.services as u64 * DataUnit::SERVICES_WEIGHT
             + unit.country as u64 * DataUnit::COUNTRY_WEIGHT
             + unit.ecc as u64 * DataUnit::ECC_WEIGHT
-            + lto_field(unit.lto) * DataUnit::LTO_WEIGHT
+            + lto_field(unit.lto).unwrap() * DataUnit::LTO_WEIGHT
             + unit.system as u64
     }
 }

@@ -4,10 +4,11 @@ ghost use Rattle.drm_write.specs.Write.{bare_fits, headed_fits, header_fits, fro
 
 use crc::block::CHECK_LENGTH;
 use drm::DataUnit;
-use lto::{FIELDS, lto_field};
+use lto::lto_field;
 use messages::are_whole;
 
 // Whether the fields and the length are in their ranges, and the words whole messages.
+#[tactic(auto, unfolding(crate::specs::Write::can_write))]
 pub(crate) fn can_write(unit: DataUnit, words: &[u64]) -> bool
     ensures { result ≡ can_write unit words.now }
 {
@@ -19,6 +20,7 @@ pub(crate) fn can_write(unit: DataUnit, words: &[u64]) -> bool
 }
 
 // Whether the fields and the length of a unit with n user words are in their ranges.
+#[tactic(auto, unfolding(crate::specs::Write::unit_fits))]
 fn unit_fits(unit: DataUnit, n: usize) -> bool
     ensures { result ≡ unit_fits unit n }
 {
@@ -30,6 +32,7 @@ fn unit_fits(unit: DataUnit, n: usize) -> bool
 }
 
 // Whether the fields of a unit with n user words are in their ranges.
+#[tactic(auto, unfolding(crate::specs::Write::fields_fit))]
 fn fields_fit(unit: DataUnit, n: usize) -> bool
     ensures { result ≡ fields_fit unit n }
 {
@@ -37,6 +40,7 @@ fn fields_fit(unit: DataUnit, n: usize) -> bool
 }
 
 // Whether the fields after Short ID go with TMCHI.
+#[tactic(auto, unfolding(crate::specs::Write::header_fits))]
 fn header_fits(unit: DataUnit, n: usize) -> bool
     ensures { result ≡ header_fits unit n }
 {
@@ -48,14 +52,14 @@ fn header_fits(unit: DataUnit, n: usize) -> bool
 }
 
 // Whether there is no field of a header, and a user word or more.
+#[tactic(auto, unfolding(crate::specs::Write::bare_fits))]
 fn bare_fits(unit: DataUnit, n: usize) -> bool
     ensures { result ≡ bare_fits unit n }
 {
-    let lto = lto_field(unit.lto);
     (unit.services == 0)
         & (unit.country == 0)
         & (unit.ecc == 0)
-        & (lto == 0)
+        & (unit.lto == 0)
         & (unit.system == 0)
         & (unit.first == 0)
         & (unit.second == 0)
@@ -64,13 +68,13 @@ fn bare_fits(unit: DataUnit, n: usize) -> bool
 }
 
 // Whether the fields of a header are in their ranges.
+#[tactic(auto, unfolding(crate::specs::Write::headed_fits))]
 fn headed_fits(unit: DataUnit) -> bool
     ensures { result ≡ headed_fits unit }
 {
-    let lto = lto_field(unit.lto);
     (unit.services < DataUnit::SERVICES)
         & (unit.country < DataUnit::COUNTRIES)
-        & (lto < FIELDS)
+        & lto_field(unit.lto).is_some()
         & (1 <= unit.system)
         & (unit.system <= DataUnit::SYSTEM_WORDS)
         & ((2 <= unit.system) | (unit.second == 0))
@@ -78,8 +82,10 @@ fn headed_fits(unit: DataUnit) -> bool
 }
 
 // The bits before the system words.
+#[tactic(auto, unfolding(crate::specs::Write::front_width))]
 pub(crate) fn front_width(unit: DataUnit) -> usize
-    ensures { result ≡ front_width unit }
+    ensures value { result ≡ front_width unit }
+    ensures few { result ≤ 32 }
 {
     if unit.tmchi == 0 {
         DataUnit::START

@@ -1,5 +1,5 @@
 -- What one FIG leaves in the buffers.
-use Prim.Native.Nat.{ℕ, suc, ◌≤◌}
+use Prim.Native.Nat.{ℕ, suc, ◌≤◌, min}
 use native.Mathlib.Omega.{arith}
 use mathlib.Core.Path.{◌≡◌, refl, sym, ap, ◌∙◌}
 use mathlib.Core.Bool.{true, false}
@@ -7,20 +7,26 @@ use mathlib.Core.List.{List, [], ◌∷◌, ◌++◌, map, append_assoc}
 use lib.ListN.{length, take, drop, replicate, take-append-drop}
 use lib.Seq.{drop-append-le, length-take-le}
 use Rattle.bits.specs.Fields.{flat}
-use Rattle.bits.specs.Outcome.{Outcome, gives}
+use Rattle.std.specs.Prelude.{Result, Ok, Err}
+use Rattle.std.specs.Result.{result_unwrap_or}
+use Rattle.refusal.specs.declared.Refusal.{Refusal}
 use Rattle.bits.proofs.Choice.{either, chosen, passed_over}
-use Rattle.bits.proofs.Outcomes.{refused-gives-none}
+use Rattle.bits.specs.Outcome.{mapped}
 use Rattle.bits.proofs.Fields.{length-words}
 use Rattle.fig.specs.declared.Fig.{Fig}
-use Rattle.fig.specs.declared.Reading as fig
-use Rattle.fig.specs.declared.Reading.TheVariants.{Taken, Refused}
+use Rattle.fig.specs.declared.Reading.{Reading}
 use Rattle.fig.specs.Format.{word_width}
 use Rattle.fig.specs.Read as read
 use Rattle.fig.proofs.Answers.{taken-room}
-use Rattle.fib.specs.declared.read.Part.TheVariants as part
 use Rattle.fib.specs.Walk.{is_tmc, Carried, carried_by, carried, read_one}
 use Rattle.fib.specs.Read.{origin_of, room_in, cells_after, words_after, origins_after}
-use Rattle.fib.specs.Parts.{part_of, given}
+
+-- how many words a FIG gave, or its refusal; and these words, none where it was refused
+abbrev pub counted : Result (List Carried) Refusal → Result ℕ Refusal
+counted x = mapped length x
+
+abbrev pub given : Result (List Carried) Refusal → List Carried
+given x = result_unwrap_or x []
 
 module _ (fig : Fig) where
   length-carried : (ws : List ℕ) → length (carried_by fig ws) ≡ length ws
@@ -36,37 +42,37 @@ module _ (fig : Fig) where
   origins-carried (w ∷ ws) = ap (λ (l : List ℕ). origin_of fig ∷ l) (origins-carried ws)
 
 -- what a FIG that was read leaves in a buffer, by the numbers of its words
-module _ (fig : Fig) (n : ℕ) (f : List ℕ) where
+module _ (r : Reading) (f : List ℕ) where
   abbrev ws : List ℕ
-  ws = read.words_in (Taken fig n) (drop 2 f)
+  ws = read.words_in (Ok r) (drop 2 f)
 
-  length_ws : length ws ≡ n
-  length_ws = length-words (word_width fig.d1) n (flat 8 (drop 2 f))
+  length_ws : length ws ≡ r.count
+  length_ws = length-words (word_width r.fig.d1) r.count (flat 8 (drop 2 f))
 
-  pub part_taken : part_of (carried (Taken fig n) f) ≡ part.Words n
-  unfolding carried part_of
-  part_taken = ap part.Words (length-carried fig ws ∙ length_ws)
+  pub count_taken : counted (carried (Ok r) f) ≡ Ok r.count
+  unfolding carried
+  count_taken = ap (λ (n : ℕ). Ok n) (length-carried r.fig ws ∙ length_ws)
 
-  cells-taken : (number : Carried → ℕ) (out : List ℕ) → cells_after number (given (carried (Taken fig n) f)) out ≡ map number (carried_by fig ws) ++ drop n out
-  unfolding carried given cells_after
-  cells-taken number out = ap (λ (m : ℕ). map number (carried_by fig ws) ++ drop m out) (length-carried fig ws ∙ length_ws)
+  cells-taken : (number : Carried → ℕ) (out : List ℕ) → cells_after number (given (carried (Ok r) f)) out ≡ map number (carried_by r.fig ws) ++ drop r.count out
+  unfolding carried cells_after
+  cells-taken number out = ap (λ (m : ℕ). map number (carried_by r.fig ws) ++ drop m out) (length-carried r.fig ws ∙ length_ws)
 
-  pub words-taken : (out : List ℕ) → words_after (given (carried (Taken fig n) f)) out ≡ ws ++ drop n out
-  words-taken out = cells-taken (λ c. c.word) out ∙ ap (λ (l : List ℕ). l ++ drop n out) (words-carried fig ws)
+  pub words-taken : (out : List ℕ) → words_after (given (carried (Ok r) f)) out ≡ ws ++ drop r.count out
+  words-taken out = cells-taken (λ c. c.word) out ∙ ap (λ (l : List ℕ). l ++ drop r.count out) (words-carried r.fig ws)
 
-  pub origins-taken : (out : List ℕ) → origins_after (given (carried (Taken fig n) f)) out ≡ replicate n (origin_of fig) ++ drop n out
+  pub origins-taken : (out : List ℕ) → origins_after (given (carried (Ok r) f)) out ≡ replicate r.count (origin_of r.fig) ++ drop r.count out
   origins-taken out =
       cells-taken (λ c. origin_of c.fig) out
-      ∙ ap (λ (l : List ℕ). l ++ drop n out) (origins-carried fig ws ∙ ap (λ (m : ℕ). replicate m (origin_of fig)) length_ws)
+      ∙ ap (λ (l : List ℕ). l ++ drop r.count out) (origins-carried r.fig ws ∙ ap (λ (m : ℕ). replicate m (origin_of r.fig)) length_ws)
 
 -- a FIG that was refused
-pub part_refused : (n : ℕ) (f : List ℕ) → part_of (carried (Refused n) f) ≡ part.Refused n
-unfolding carried part_of
-part_refused n f = refl
+pub count_refused : (e : Refusal) (f : List ℕ) → counted (carried (Err e) f) ≡ Err e
+unfolding carried
+count_refused e f = refl
 
-pub cells-refused : (number : Carried → ℕ) (n : ℕ) (f out : List ℕ) → cells_after number (given (carried (Refused n) f)) out ≡ out
-unfolding carried given cells_after
-cells-refused number n f out = refl
+pub cells-refused : (number : Carried → ℕ) (e : Refusal) (f out : List ℕ) → cells_after number (given (carried (Err e) f)) out ≡ out
+unfolding carried cells_after
+cells-refused number e f out = refl
 
 -- a FIG 5/1 is read, and any other gives nothing
 pub one_tmc : (f : List ℕ) (room : ℕ) → is_tmc f ≡ true → read_one room f ≡ carried (read.read_fig f room) f
@@ -74,39 +80,38 @@ unfolding read_one
 one_tmc f room t = chosen _ _ _ t
 
 module _ (f : List ℕ) (room : ℕ) (t : is_tmc f ≡ false) where
-  pub one_other : read_one room f ≡ gives []
+  pub one_other : read_one room f ≡ Ok []
   unfolding read_one
   one_other = passed_over _ _ _ t
 
-  pub part_other : part_of (read_one room f) ≡ part.Words 0
-  unfolding part_of
-  part_other = ap part_of one_other
+  pub count_other : counted (read_one room f) ≡ Ok 0
+  count_other = ap counted one_other
 
   pub cells_other : (number : Carried → ℕ) (out : List ℕ) → cells_after number (given (read_one room f)) out ≡ out
-  unfolding given cells_after
-  cells_other number out = ap (λ (x : Outcome (List Carried) ℕ). cells_after number (given x) out) one_other
+  unfolding cells_after
+  cells_other number out = ap (λ (x : Result (List Carried) Refusal). cells_after number (given x) out) one_other
 
-taken-length : (fig : Fig) (n : ℕ) (f : List ℕ) (cs : List Carried) → carried (Taken fig n) f ≡ gives cs → length cs ≡ n
+taken-length : (r : Reading) (f : List ℕ) (cs : List Carried) → carried (Ok r) f ≡ Ok cs → length cs ≡ r.count
 unfolding carried
-taken-length fig n f cs e = let k : carried_by fig (ws fig n f) ≡ cs = cc in sym (ap length k) ∙ length-carried fig (ws fig n f) ∙ length_ws fig n f
+taken-length r f cs e = let k : carried_by r.fig (ws r f) ≡ cs = cc in sym (ap length k) ∙ length-carried r.fig (ws r f) ∙ length_ws r f
 
-pub refused-unread : (n : ℕ) (f : List ℕ) (cs : List Carried) → carried (Refused n) f ≡ gives cs → ⊥
+pub refused-unread : (e : Refusal) (f : List ℕ) (cs : List Carried) → carried (Err e) f ≡ Ok cs → ⊥
 unfolding carried
-refused-unread n f cs e = refused-gives-none e
+refused-unread e f cs h = absurd (cc)
 
 -- no FIG gives more words than there is room for
-pub one_fits : (f : List ℕ) (room : ℕ) (cs : List Carried) → read_one room f ≡ gives cs → length cs ≤ room
+pub one_fits : (f : List ℕ) (room : ℕ) (cs : List Carried) → read_one room f ≡ Ok cs → length cs ≤ room
 one_fits f room cs e =
     either (is_tmc f)
     (λ t. by (read.read_fig f room) refl (sym (one_tmc f room t) ∙ e))
-    (λ t. let none : gives [] ≡ gives cs = sym (one_other f room t) ∙ e in let k : [] ≡ cs = cc in omega (arith, ap length k))
+    (λ t. let none : read_one room f ≡ Ok [] = one_other f room t in let k : [] ≡ cs = cc in omega (arith, ap length k))
   where
-    by : (r : fig.Reading) → read.read_fig f room ≡ r → carried r f ≡ gives cs → length cs ≤ room
-    by (Taken fig n) h k = omega (arith, taken-room f room n fig h, taken-length fig n f cs k)
-    by (Refused n) h k = absurd (refused-unread n f cs k)
+    by : (x : Result Reading Refusal) → read.read_fig f room ≡ x → carried x f ≡ Ok cs → length cs ≤ room
+    by (Ok r) h k = omega (arith, taken-room f room r h, taken-length r f cs k)
+    by (Err x) h k = absurd (refused-unread x f cs k)
 
 -- the reader was lent the first cells of a buffer
-pub read_front : (r : fig.Reading) (bytes out : List ℕ) (room : ℕ) → read.count_in r ≤ room → room ≤ length out
+pub read_front : (r : Result Reading Refusal) (bytes out : List ℕ) (room : ℕ) → read.count_in r ≤ room → room ≤ length out
     → read.words_after r bytes (take room out) ++ drop room out ≡ read.words_in r bytes ++ drop (read.count_in r) out
 unfolding read.words_after
 read_front r bytes out room h k =
@@ -118,3 +123,31 @@ read_front r bytes out room h k =
 -- the room in both buffers
 pub room_fits : (words origins : List ℕ) → (room_in words origins ≤ length words) × (room_in words origins ≤ length origins)
 room_fits words origins = (omega arith, omega arith)
+
+-- the reader is lent so many cells
+pub lent : (words origins : List ℕ) → length (take (min (length words) (length origins)) words) ≡ min (length words) (length origins)
+lent words origins = length-take-le (room_in words origins) words (room_fits words origins).0
+
+-- what the reader answers, into these cells
+module _ (f words origins : List ℕ) (room : ℕ) (e : room ≡ min (length words) (length origins)) (x : Result Reading Refusal) (h : x ≡ read.read_fig f (length (take room words))) where
+  pub told : x ≡ read.read_fig f (room_in words origins)
+  told = h ∙ ap (λ (n : ℕ). read.read_fig f (length (take n words))) e ∙ ap (read.read_fig f) (lent words origins)
+
+  pub told-fits : read.count_in x ≤ room_in words origins
+  told-fits = by x told
+    where
+      by : (y : Result Reading Refusal) → y ≡ read.read_fig f (room_in words origins) → read.count_in y ≤ room_in words origins
+      by (Ok r) k = taken-room f (room_in words origins) r (sym k)
+      by (Err n) k = omega arith
+
+  -- the words, and later cells as they were
+  pub told-words : (out : List ℕ) → out ≡ read.words_after x (drop 2 f) (take room words) → out ++ drop room words ≡ words_after (given (carried (read.read_fig f (room_in words origins)) f)) words
+  told-words out k =
+      ap (λ (l : List ℕ). l ++ drop room words) k
+      ∙ read_front x (drop 2 f) words room (omega (arith, told-fits)) (omega (arith, room_fits words origins))
+      ∙ by x
+      ∙ ap (λ (y : Result Reading Refusal). words_after (given (carried y f)) words) told
+    where
+      by : (y : Result Reading Refusal) → read.words_in y (drop 2 f) ++ drop (read.count_in y) words ≡ words_after (given (carried y f)) words
+      by (Ok r) = sym (words-taken r f words)
+      by (Err n) = sym (cells-refused (λ c. c.word) n f words)

@@ -1,4 +1,4 @@
--- A block gives what the FIG reader gives for each of its FIGs 5/1 by itself, in order (`taken-each`); where the reading stopped, it gives
+-- A block gives what the FIG reader gives for each of its FIGs 5/1 by itself, in order (`whole_each`); where the reading stopped, it gives
 -- this of the FIGs 5/1 before the one at which it stopped, and that one the FIG reader refuses (`stopped_by`).
 use Prim.Native.Nat.{ℕ, ◌-◌}
 use native.Mathlib.Nat.{zero-add}
@@ -6,19 +6,21 @@ use native.Mathlib.Omega.{arith}
 use mathlib.Core.Path.{◌≡◌, sym, ap, ap₂, ◌∙◌}
 use mathlib.Core.List.{List, ◌++◌, map}
 use lib.ListN.{length, drop}
+use Rattle.std.specs.Prelude.{Ok}
+use Rattle.refusal.specs.declared.Refusal.{Refusal}
 use Rattle.bits.specs.Lists.{joined}
 use Rattle.crc.specs.Block.{payload}
 use Rattle.fig.specs.Read.{read_fig}
 use Rattle.fib.specs.declared.Fib.{Fib}
-use Rattle.fib.specs.declared.Reading.TheVariants.{Taken, Stopped}
+use Rattle.fib.specs.declared.Reading.TheVariants.{Whole, Stopped}
 use Rattle.fib.specs.Figs.{figs}
 use Rattle.fib.specs.Walk.{Carried, carried_by}
-use Rattle.fib.specs.Read.{block_refusal, block_walk, read_block, read_words, origin_of, cells_after}
+use Rattle.fib.specs.Read.{check_block, block_walk, read_block, read_words, origin_of, cells_after}
 use Rattle.fib.specs.Each.{tmcs, fig_by, words_by, origins_by, GivenBy, StoppedBy}
 use Rattle.fib.proofs.Carrying.{words-carried, origins-carried}
 use Rattle.fib.proofs.Walking.{length_numbers, numbers_joined}
 use Rattle.fib.proofs.Blocks.{block_words}
-use Rattle.fib.proofs.Answers.{taken-walk, stopped_walk}
+use Rattle.fib.proofs.Answers.{whole_walk, stopped_walk}
 use Rattle.fib.proofs.Passing.{given_by, Passed, passed_all, halted}
 
 -- a number of each word that is given for FIGs
@@ -42,7 +44,7 @@ origin-of f = origins-carried (fig_by f) (words_by f)
 
 module _ (s : List ℕ) (room : ℕ) where
   -- what the walk passed is what the block gives
-  given_by_lem : (fs : List (List ℕ)) (n : ℕ) → block_refusal s ≡ 0 → n ≡ length (block_walk s room).found → Passed room fs (block_walk s room).found → GivenBy (tmcs fs) s room n
+  given_by_lem : (fs : List (List ℕ)) (n : ℕ) → check_block s ≡ Ok tt → n ≡ length (block_walk s room).found → Passed room fs (block_walk s room).found → GivenBy (tmcs fs) s room n
   given_by_lem fs n z e p =
       let found = block_words s room z in
       let given : read_words s room ≡ given_by (tmcs fs) = found ∙ p.given in
@@ -55,12 +57,12 @@ module _ (s : List ℕ) (room : ℕ) where
         origins = λ out. cells-given (λ c. origin_of c.fig) origins_by origin-of (tmcs fs) (read_words s room) given n out count;
       }
 
-  pub taken-each : (n : ℕ) → read_block s room ≡ Taken n → GivenBy (tmcs (figs (payload s))) s room n
-  taken-each n e =
-      let t = taken-walk s room n e in
+  pub whole_each : (n : ℕ) → read_block s room ≡ Ok (Whole n) → GivenBy (tmcs (figs (payload s))) s room n
+  whole_each n e =
+      let t = whole_walk s room n e in
       given_by_lem (figs (payload s)) n t.0 t.1 (passed_all (figs (payload s)) 0 room t.2)
 
-  pub stopped_by : (fib : Fib) (n : ℕ) → read_block s room ≡ Stopped fib n → StoppedBy s room fib n
+  pub stopped_by : (fib : Fib) (n : Refusal) → read_block s room ≡ Ok (Stopped fib n) → StoppedBy s room fib n
   stopped_by fib n e =
       let t = stopped_walk s room fib n e in
       let h = halted (figs (payload s)) 0 room n fib.at t.2 in

@@ -7,9 +7,9 @@ use mathlib.Core.Bool.{true, false}
 use mathlib.Core.List.{List, [], ◌∷◌, ◌++◌, map}
 use lib.ListN.{length, length-append}
 use Rattle.bits.specs.Lists.{joined}
-use Rattle.bits.specs.Outcome.{Outcome, gives, refused}
+use Rattle.std.specs.Prelude.{Result, Ok, Err}
+use Rattle.refusal.specs.declared.Refusal.{Refusal}
 use Rattle.bits.proofs.Choice.{either, chosen, passed_over}
-use Rattle.fig.specs.declared.Reading.TheVariants.{Refused}
 use Rattle.fig.specs.Read.{read_fig}
 use Rattle.fib.specs.Walk.{is_tmc, Carried, carried_by, read_one, all, refused_at, Walk, and_then, walk_from}
 use Rattle.fib.specs.Each.{tmcs, fig_by, words_by, AllTaken}
@@ -39,7 +39,7 @@ passed_none : (room : ℕ) → Passed room [] []
 unfolding tmcs joined
 passed_none room = record { taken = tt; given = refl; fits = omega arith }
 
-passed_more : (f : List ℕ) (fs : List (List ℕ)) (room : ℕ) (cs ds : List Carried) → read_one room f ≡ gives cs → Passed (room - length cs) fs ds → Passed room (f ∷ fs) (cs ++ ds)
+passed_more : (f : List ℕ) (fs : List (List ℕ)) (room : ℕ) (cs ds : List Carried) → read_one room f ≡ Ok cs → Passed (room - length cs) fs ds → Passed room (f ∷ fs) (cs ++ ds)
 unfolding joined
 passed_more f fs room cs ds e p =
     let fit : length (cs ++ ds) ≤ room = omega (arith, length-append cs ds, one_fits f room cs e, p.fits) in
@@ -52,17 +52,14 @@ passed_more f fs room cs ds e p =
     let same = tmcs-same f fs t in
     record { taken = subst AllTaken (sym same) p.taken; given = ap₂ (λ (l m : List Carried). l ++ m) (read_other f room cs e t) p.given ∙ sym (ap given_by same); fits = fit })
 
-no_refusal : (n at : ℕ) → refused_at n at ≡ all → ⊥
-no_refusal n at e = let z : ◌≡◌ {A = ℕ} 0 1 = cc in omega arith
-
 -- a walk to the end
-passed_step : (f : List ℕ) (fs : List (List ℕ)) (at room : ℕ) (x : Outcome (List Carried) ℕ) (next : ℕ → Walk) → read_one room f ≡ x
+passed_step : (f : List ℕ) (fs : List (List ℕ)) (at room : ℕ) (x : Result (List Carried) Refusal) (next : ℕ → Walk) → read_one room f ≡ x
     → ((n : ℕ) → (next n).end ≡ all → Passed (room - n) fs (next n).found)
     → (and_then at x next).end ≡ all
     → Passed room (f ∷ fs) (and_then at x next).found
 unfolding and_then
-passed_step f fs at room (gives cs) next h others e = passed_more f fs room cs (next (length cs)).found h (others (length cs) e)
-passed_step f fs at room (refused n) next h others e = absurd (no_refusal n at e)
+passed_step f fs at room (Ok cs) next h others e = passed_more f fs room cs (next (length cs)).found h (others (length cs) e)
+passed_step f fs at room (Err n) next h others e = absurd (cc)
 
 pub passed_all : (fs : List (List ℕ)) (at room : ℕ) → (walk_from at room fs).end ≡ all → Passed room fs (walk_from at room fs).found
 unfolding walk_from
@@ -70,7 +67,7 @@ passed_all [] at room e = passed_none room
 passed_all (f ∷ fs) at room e = passed_step f fs at room (read_one room f) (λ n. walk_from (at + length f) (room - n) fs) refl (λ n. passed_all fs (at + length f) (room - n)) e
 
 -- a walk that ended before: the FIGs that were passed, and the one that is refused with the room that is left, at byte begin
-pub record Halted (at room : ℕ) (fs : List (List ℕ)) (found : List Carried) (refusal begin : ℕ) : Type 0 where
+pub record Halted (at room : ℕ) (fs : List (List ℕ)) (found : List Carried) (refusal : Refusal) (begin : ℕ) : Type 0 where
   pub before : List (List ℕ)
   pub fig : List ℕ
   pub behind : List (List ℕ)
@@ -78,14 +75,14 @@ pub record Halted (at room : ℕ) (fs : List (List ℕ)) (found : List Carried) 
   pub tmc : is_tmc fig ≡ true
   pub begins : begin ≡ at + length (joined before)
   pub passed : Passed room before found
-  pub refuses : read_fig fig (room - length found) ≡ Refused refusal
+  pub refuses : read_fig fig (room - length found) ≡ Err refusal
 
-halted_step : (f : List ℕ) (fs : List (List ℕ)) (at room n begin : ℕ) (x : Outcome (List Carried) ℕ) (next : ℕ → Walk) → read_one room f ≡ x
+halted_step : (f : List ℕ) (fs : List (List ℕ)) (at room : ℕ) (n : Refusal) (begin : ℕ) (x : Result (List Carried) Refusal) (next : ℕ → Walk) → read_one room f ≡ x
     → ((m : ℕ) → (next m).end ≡ refused_at n begin → Halted (at + length f) (room - m) fs (next m).found n begin)
     → (and_then at x next).end ≡ refused_at n begin
     → Halted at room (f ∷ fs) (and_then at x next).found n begin
 unfolding and_then joined
-halted_step f fs at room n begin (gives cs) next h others e =
+halted_step f fs at room n begin (Ok cs) next h others e =
     let o = others (length cs) e in
     let ds = (next (length cs)).found in
     let left : room - length (cs ++ ds) ≡ room - length cs - length ds = omega (arith, length-append cs ds) in
@@ -99,7 +96,7 @@ halted_step f fs at room n begin (gives cs) next h others e =
       passed = passed_more f o.before room cs ds h o.passed;
       refuses = ap (read_fig o.fig) left ∙ o.refuses;
     }
-halted_step f fs at room n begin (refused m) next h others e =
+halted_step f fs at room n begin (Err m) next h others e =
     let r = read-refused f room m h in
     let same : m ≡ n = cc in
     let here : at ≡ begin = cc in
@@ -111,10 +108,10 @@ halted_step f fs at room n begin (refused m) next h others e =
       tmc = r.0;
       begins = sym here ∙ sym (add-zero at);
       passed = passed_none room;
-      refuses = ap (read_fig f) (sub-zero room) ∙ r.1 ∙ ap Refused same;
+      refuses = ap (read_fig f) (sub-zero room) ∙ r.1 ∙ ap (λ (x : Refusal). Err x) same;
     }
 
-pub halted : (fs : List (List ℕ)) (at room n begin : ℕ) → (walk_from at room fs).end ≡ refused_at n begin → Halted at room fs (walk_from at room fs).found n begin
+pub halted : (fs : List (List ℕ)) (at room : ℕ) (n : Refusal) (begin : ℕ) → (walk_from at room fs).end ≡ refused_at n begin → Halted at room fs (walk_from at room fs).found n begin
 unfolding walk_from
-halted [] at room n begin e = absurd (no_refusal n begin (sym e))
+halted [] at room n begin e = absurd (cc)
 halted (f ∷ fs) at room n begin e = halted_step f fs at room n begin (read_one room f) (λ m. walk_from (at + length f) (room - m) fs) refl (λ m. halted fs (at + length f) (room - m) n begin) e

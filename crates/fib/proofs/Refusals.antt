@@ -1,4 +1,4 @@
--- The numbers of the refusals: a block is refused by 1 or 4, and leaves the buffers; one of its FIGs 5/1 by 1, 3 or 15, and then by 1 only
+-- The refusals: a block is refused by 1 or 4, and leaves the buffers; one of its FIGs 5/1 by 1, 3 or 15, and then by 1 only
 -- for the length of its data, and by 15 only for want of room.
 use Prim.Native.Nat.{ℕ, ◌+◌, ◌-◌, ◌≤◌}
 use native.Mathlib.Omega.{arith}
@@ -11,43 +11,46 @@ use lib.Dec.{leb, eqb}
 use borrow.Author.Tests.{leb-false, le-leb, eq-eqb}
 use Rattle.bits.specs.Bits.{all_zero}
 use Rattle.bits.specs.Lists.{joined}
-use Rattle.bits.specs.Checks.{must}
+use Rattle.std.specs.Prelude.{Result, Ok, Err, ⊤, IfErr}
+use Rattle.refusal.specs.declared.Refusal.{Refusal}
+use Rattle.refusal.specs.declared.Refusal.TheVariants.{WrongLength, Reserved, WrongCheckWord, SmallBuffer}
+use Rattle.refusal.specs.Checks.{must}
 use Rattle.bits.proofs.Choice.{and_left, and_right, chosen}
-use Rattle.bits.proofs.Checks.{by_check}
+use Rattle.refusal.proofs.Checks.{by_check}
 use Rattle.crc.specs.Block.{payload, is_checked}
-use Rattle.fig.specs.declared.Reading.TheVariants.{Taken, Refused}
 use Rattle.fig.specs.Format.{type_in, following_in, d2_in, extension_in}
-use Rattle.fig.specs.Read.{fields, fig_of, padding, length_fits, field_refusal, head_refusal, data_refusal, read_data, read_fig}
+use Rattle.fig.specs.Read.{fields, padding, length_fits, check_fields, check_head, check_data, read_data, read_fig}
 use Rattle.fig.proofs.Answers.{by_refusal}
 use Rattle.fib.specs.declared.Fib.{Fib}
-use Rattle.fib.specs.declared.Reading.TheVariants as block
+use Rattle.fib.specs.declared.Reading.TheVariants.{Stopped}
 use Rattle.fib.specs.Figs.{ended, rest}
 use Rattle.fib.specs.Structure.{IsFig, AllFigs}
 use Rattle.fib.specs.Walk.{is_tmc}
-use Rattle.fib.specs.Read.{block_refusal, read_block, read_words, origin_of, words_after, origins_after}
+use Rattle.fib.specs.Read.{check_block, read_block, read_words, origin_of, words_after, origins_after}
 use Rattle.fib.specs.Each.{StoppedBy}
 use Rattle.fib.specs.Refusals.{word_bits, word_count, Why}
 use Rattle.fib.proofs.Structure.{structure}
-use Rattle.fib.proofs.Blocks.{cells-kept}
+use Rattle.fib.proofs.Blocks.{cells_kept}
 use Rattle.fib.proofs.Within.{fig_among, joined_among, figs_short}
 use Rattle.fib.proofs.Answers.{stopped_walk, refused_checks}
 use Rattle.fib.proofs.Each.{stopped_by}
 
 module _ (f : List ℕ) (room : ℕ) where
-  abbrev OrNone : ℕ → Type 0
-  OrNone n = (n ≡ 0) ⊎ Why f room n
+  -- where there is a refusal, it is for one of these reasons
+  abbrev IfAny : Result ⊤ Refusal → Type 0
+  IfAny r = IfErr r (Why f room)
 
-  data_why : OrNone (data_refusal (word_bits f) (drop 2 f) room)
-  unfolding data_refusal
+  data_why : IfAny (check_data (word_bits f) (drop 2 f) room)
+  unfolding check_data
   data_why =
-      by_check OrNone (length_fits (word_bits f) (length (drop 2 f))) 1 _ (λ t. inr (inl (refl, t)))
-      (by_check OrNone (all_zero (padding (word_bits f) (drop 2 f))) 3 _ (λ t. inr (inr (inl refl)))
-      (by_check OrNone (leb (word_count f) room) 15 0 (λ t. inr (inr (inr (refl, leb-false (word_count f) room t)))) (inl refl)))
+      by_check IfAny (length_fits (word_bits f) (length (drop 2 f))) WrongLength _ (λ t. inl (refl, t))
+      (by_check IfAny (all_zero (padding (word_bits f) (drop 2 f))) Reserved _ (λ t. inr (inl refl))
+      (by_check IfAny (leb (word_count f) room) SmallBuffer (Ok tt) (λ t. inr (inr (refl, leb-false (word_count f) room t))) tt))
 
   -- length, type, count and extension pass
   module _ (t : is_tmc f ≡ true) (fig : IsFig f) (short : length f ≤ 30) where
-    head_checks : head_refusal f ≡ must (eqb (d2_in (fields f)) 0) 3 0
-    unfolding is_tmc head_refusal field_refusal
+    head_checks : check_head f ≡ must (eqb (d2_in (fields f)) 0) Reserved (Ok tt)
+    unfolding is_tmc check_head check_fields
     head_checks =
         let h = fields f in
         let named = and_right (leb 2 (length f)) (eqb (type_in h) 5 && eqb (extension_in h) 1) t in
@@ -57,27 +60,29 @@ module _ (f : List ℕ) (room : ℕ) where
         ∙ chosen _ _ _ (eq-eqb (following_in h) (length f - 1) counted)
         ∙ chosen _ _ _ (and_right (eqb (type_in h) 5) (eqb (extension_in h) 1) named)
 
-    head_why : OrNone (head_refusal f)
-    head_why = subst OrNone (sym head_checks) (by_check OrNone (eqb (d2_in (fields f)) 0) 3 0 (λ t. inr (inr (inl refl))) (inl refl))
+    head_why : IfAny (check_head f)
+    head_why = subst IfAny (sym head_checks) (by_check IfAny (eqb (d2_in (fields f)) 0) Reserved (Ok tt) (λ t. inr (inl refl)) tt)
 
-    fig_why : (n : ℕ) → read_fig f room ≡ Refused n → Why f room n
+    fig_why : (n : Refusal) → read_fig f room ≡ Err n → Why f room n
     unfolding read_fig read_data
     fig_why n e =
-        by_refusal (Why f room) (head_refusal f) n (read_data (fig_of (fields f)) (drop 2 f) room) head_why
-        (λ _. by_refusal (Why f room) (data_refusal (word_bits f) (drop 2 f) room) n (Taken (fig_of (fields f)) (word_count f)) data_why (λ _ k. let z : ◌≡◌ {A = ℕ} 0 1 = cc in absurd (omega arith)))
+        by_refusal (Why f room) (check_head f) _ n head_why
+        (λ _ _. by_refusal (Why f room) (check_data (word_bits f) (drop 2 f) room) _ n data_why (λ _ _ k. absurd (cc)))
         e
 
 -- the checks of a whole block
-block_checks : (s : List ℕ) → (block_refusal s ≡ 0) ⊎ ((block_refusal s ≡ 1) ⊎ (block_refusal s ≡ 4))
-unfolding block_refusal
+abbrev Checked : Result ⊤ Refusal → Type 0
+Checked r = IfErr r (λ n. (n ≡ WrongLength) ⊎ (n ≡ WrongCheckWord))
+
+block_checks : (s : List ℕ) → Checked (check_block s)
+unfolding check_block
 block_checks s =
-    let P : ℕ → Type 0 = λ n. (n ≡ 0) ⊎ ((n ≡ 1) ⊎ (n ≡ 4)) in
-    by_check P (eqb (length s) 32) 1 _ (λ t. inr (inl refl))
-    (by_check P (is_checked s) 4 _ (λ t. inr (inr refl))
-    (by_check P (ended (rest (payload s))) 1 0 (λ t. inr (inl refl)) (inl refl)))
+    by_check Checked (eqb (length s) 32) WrongLength _ (λ t. inl refl)
+    (by_check Checked (is_checked s) WrongCheckWord _ (λ t. inr refl)
+    (by_check Checked (ended (rest (payload s))) WrongLength (Ok tt) (λ t. inl refl) tt))
 
 module _ (s : List ℕ) (room : ℕ) where
-  module _ (fib : Fib) (n : ℕ) (e : read_block s room ≡ block.Stopped fib n) where
+  module _ (fib : Fib) (n : Refusal) (e : read_block s room ≡ Ok (Stopped fib n)) where
     abbrev stop : StoppedBy s room fib n
     stop = stopped_by s room fib n e
 
@@ -90,24 +95,19 @@ module _ (s : List ℕ) (room : ℕ) where
         let is-fig = fig_among stop.before stop.fig stop.behind (subst AllFigs stop.all (structure (payload s)).each) in
         fig_why stop.fig (room - fib.count) stop.tmc is-fig (omega (arith, stopped_short)) n stop.refused
 
-    pub stopped_numbers : (n ≡ 1) ⊎ ((n ≡ 3) ⊎ (n ≡ 15))
+    pub stopped_numbers : (n ≡ WrongLength) ⊎ ((n ≡ Reserved) ⊎ (n ≡ SmallBuffer))
     stopped_numbers = by stopped_why
       where
-        by : Why stop.fig (room - fib.count) n → (n ≡ 1) ⊎ ((n ≡ 3) ⊎ (n ≡ 15))
+        by : Why stop.fig (room - fib.count) n → (n ≡ WrongLength) ⊎ ((n ≡ Reserved) ⊎ (n ≡ SmallBuffer))
         by (inl h) = inl h.0
         by (inr (inl h)) = inr (inl h)
         by (inr (inr h)) = inr (inr h.0)
 
-  module _ (n : ℕ) (e : read_block s room ≡ block.Refused n) where
-    pub refused_numbers : (n ≡ 1) ⊎ (n ≡ 4)
-    refused_numbers = by (block_checks s)
-      where
-        by : (block_refusal s ≡ 0) ⊎ ((block_refusal s ≡ 1) ⊎ (block_refusal s ≡ 4)) → (n ≡ 1) ⊎ (n ≡ 4)
-        by (inl z) = absurd ((refused_checks s room n e).1 z)
-        by (inr (inl h)) = inl (sym (refused_checks s room n e).0 ∙ h)
-        by (inr (inr h)) = inr (sym (refused_checks s room n e).0 ∙ h)
+  module _ (n : Refusal) (e : read_block s room ≡ Err n) where
+    pub refused_numbers : (n ≡ WrongLength) ⊎ (n ≡ WrongCheckWord)
+    refused_numbers = subst Checked (refused_checks s room n e) (block_checks s)
 
     pub refused-keeps : (out : List ℕ) → (words_after (read_words s room) out ≡ out) × (origins_after (read_words s room) out ≡ out)
     refused-keeps out =
-        let kept = cells-kept s room (refused_checks s room n e).1 in
+        let kept = cells_kept s room n (refused_checks s room n e) in
         (kept (λ c. c.word) out, kept (λ c. origin_of c.fig) out)

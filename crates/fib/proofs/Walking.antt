@@ -9,26 +9,23 @@ use lib.ListN.{length, take, drop, length-append, length-drop, drop_of_length-le
 use lib.Seq.{length-take-le, take_at, drop_at, drop-drop, take-add, take_all}
 use borrow.Rule.Slice.PartMut.{put_mid}
 use Rattle.bits.specs.Lists.{joined}
-use Rattle.bits.specs.Outcome.{Outcome, gives, refused}
-use Rattle.fib.specs.declared.read.Part.TheVariants as part
+use Rattle.std.specs.Prelude.{Result, Ok, Err, Some, None}
+use Rattle.refusal.specs.declared.Refusal.{Refusal}
 use Rattle.fib.specs.Figs.{first_length, figs}
 use Rattle.fib.specs.Walk.{Carried, read_one, End, all, refused_at, Walk, and_then, walk_from}
 use Rattle.fib.specs.Read.{ending_by, ending, room_in, cells_after}
-use Rattle.fib.specs.Parts.{part_of, given}
 use Rattle.fib.proofs.Header.{first_fits}
 use Rattle.fib.proofs.FigsLaw.{figs-none, figs-first}
-use Rattle.fib.proofs.Carrying.{one_fits}
+use Rattle.fib.proofs.Carrying.{counted, given, one_fits}
 
 -- what the code's answer for one FIG tells
-pub part_words : (x : Outcome (List Carried) ℕ) (k : ℕ) → part_of x ≡ part.Words k → (x ≡ gives (given x)) × (length (given x) ≡ k)
-unfolding part_of given
-part_words (gives cs) k e = (refl, cc)
-part_words (refused n) k e = let z : ◌≡◌ {A = ℕ} 0 1 = cc in absurd (omega arith)
+pub count_words : (x : Result (List Carried) Refusal) (k : ℕ) → counted x ≡ Ok k → (x ≡ Ok (given x)) × (length (given x) ≡ k)
+count_words (Ok cs) k e = (refl, cc)
+count_words (Err n) k e = absurd (cc)
 
-pub part_stop : (x : Outcome (List Carried) ℕ) (n : ℕ) → part_of x ≡ part.Refused n → x ≡ refused n
-unfolding part_of
-part_stop (gives cs) n e = let z : ◌≡◌ {A = ℕ} 0 1 = cc in absurd (omega arith)
-part_stop (refused m) n e = let k : m ≡ n = cc in ap refused k
+pub count_stop : (x : Result (List Carried) Refusal) (n : Refusal) → counted x ≡ Err n → x ≡ Err n
+count_stop (Ok cs) n e = absurd (cc)
+count_stop (Err m) n e = cc
 
 -- the walk over the FIGs of some bytes
 abbrev pub over : ℕ → ℕ → List ℕ → Walk
@@ -36,33 +33,33 @@ over at room s = walk_from at room (figs s)
 
 module _ (s : List ℕ) (at room : ℕ) where
   -- no FIG
-  walked_none : first_length s ≡ 0 → over at room s ≡ record { found = []; end = all }
+  walked_none : first_length s ≡ None → over at room s ≡ record { found = []; end = all }
   unfolding walk_from
   walked_none e = ap (walk_from at room) (figs-none s e)
 
-  module _ (n : ℕ) (e : first_length s ≡ n) (some : n ≡ 0 → ⊥) where
+  module _ (n : ℕ) (e : first_length s ≡ Some n) where
     length-first : length (take n s) ≡ n
-    length-first = length-take-le n s (omega (arith, first_fits s, e))
+    length-first = length-take-le n s (first_fits s n e).1
 
     first_step : over at room s ≡ and_then at (read_one room (take n s)) (λ k. walk_from (at + length (take n s)) (room - k) (figs (drop n s)))
     unfolding walk_from
-    first_step = ap (walk_from at room) (figs-first s n e some)
+    first_step = ap (walk_from at room) (figs-first s n e)
 
     -- the first gives words
-    walked_words : (cs : List Carried) (k : ℕ) → read_one room (take n s) ≡ gives cs → length cs ≡ k
+    walked_words : (cs : List Carried) (k : ℕ) → read_one room (take n s) ≡ Ok cs → length cs ≡ k
         → over at room s ≡ record { found = cs ++ (over (at + n) (room - k) (drop n s)).found; end = (over (at + n) (room - k) (drop n s)).end }
     unfolding and_then
     walked_words cs k g h =
         first_step
-        ∙ ap (λ (x : Outcome (List Carried) ℕ). and_then at x (λ k. walk_from (at + length (take n s)) (room - k) (figs (drop n s)))) g
+        ∙ ap (λ (x : Result (List Carried) Refusal). and_then at x (λ k. walk_from (at + length (take n s)) (room - k) (figs (drop n s)))) g
         ∙ ap₂ (λ (a b : ℕ). let w : Walk = record { found = cs ++ (over a (room - b) (drop n s)).found; end = (over a (room - b) (drop n s)).end } in w)
         (ap (λ (m : ℕ). at + m) length-first)
         h
 
     -- the first is refused
-    walked_refused : (m : ℕ) → read_one room (take n s) ≡ refused m → over at room s ≡ record { found = []; end = refused_at m at }
+    walked_refused : (m : Refusal) → read_one room (take n s) ≡ Err m → over at room s ≡ record { found = []; end = refused_at m at }
     unfolding and_then
-    walked_refused m g = first_step ∙ ap (λ (x : Outcome (List Carried) ℕ). and_then at x (λ k. walk_from (at + length (take n s)) (room - k) (figs (drop n s)))) g
+    walked_refused m g = first_step ∙ ap (λ (x : Result (List Carried) Refusal). and_then at x (λ k. walk_from (at + length (take n s)) (room - k) (figs (drop n s)))) g
 
 -- how far a walk has come: at byte at, after count words, what is left of it is what is left to be found
 pub record Reached (s : List ℕ) (room at count : ℕ) : Type 0 where
@@ -99,22 +96,22 @@ module _ (s : List ℕ) (room at count : ℕ) (h : Reached s room at count) wher
     pub answered : ending_by count e ≡ ending (over 0 room s)
     answered = ap₂ ending_by (sym counted-all) (sym (ap (λ (x : Walk). x.end) w) ∙ h.same_end)
 
-  pub at_last_lem : first_length (drop at s) ≡ 0 → over at (room - count) (drop at s) ≡ record { found = []; end = all }
+  pub at_last_lem : first_length (drop at s) ≡ None → over at (room - count) (drop at s) ≡ record { found = []; end = all }
   at_last_lem e = walked_none (drop at s) at (room - count) e
 
-  module _ (n : ℕ) (e : first_length (drop at s) ≡ n) (more : n ≡ 0 → ⊥) where
-    pub at_refused : (m : ℕ) → read_one (room - count) (take n (drop at s)) ≡ refused m → over at (room - count) (drop at s) ≡ record { found = []; end = refused_at m at }
-    at_refused m g = walked_refused (drop at s) at (room - count) n e more m g
+  module _ (n : ℕ) (e : first_length (drop at s) ≡ Some n) where
+    pub at_refused : (m : Refusal) → read_one (room - count) (take n (drop at s)) ≡ Err m → over at (room - count) (drop at s) ≡ record { found = []; end = refused_at m at }
+    at_refused m g = walked_refused (drop at s) at (room - count) n e m g
 
     -- the next FIG gives k words
-    module _ (cs : List Carried) (k : ℕ) (g : read_one (room - count) (take n (drop at s)) ≡ gives cs) (l : length cs ≡ k) where
+    module _ (cs : List Carried) (k : ℕ) (g : read_one (room - count) (take n (drop at s)) ≡ Ok cs) (l : length cs ≡ k) where
       abbrev next : Walk
       next = over (at + n) (room - (count + k)) (drop (at + n) s)
 
       stepped : over at (room - count) (drop at s) ≡ record { found = cs ++ next.found; end = next.end }
       stepped =
           let left_over : room - count - k ≡ room - (count + k) = omega arith in
-          walked_words (drop at s) at (room - count) n e more cs k g l
+          walked_words (drop at s) at (room - count) n e cs k g l
           ∙ ap₂ (λ (m : ℕ) (t : List ℕ). let w : Walk = record { found = cs ++ (over (at + n) m t).found; end = (over (at + n) m t).end } in w)
           left_over
           (drop-drop n at s)
@@ -128,7 +125,7 @@ module _ (s : List ℕ) (room at count : ℕ) (h : Reached s room at count) wher
 
       pub reached : Reached s room (at + n) (count + k)
       reached = record {
-        inside = omega (arith, e, first_fits (drop at s), length-drop at s, h.inside);
+        inside = omega (arith, first_fits (drop at s) n e, length-drop at s, h.inside);
         fits = omega (arith, h.fits, l, one_fits (take n (drop at s)) (room - count) cs g);
         some = omega (arith, h.some, length-drop count all_words, ap length then_left, length-append cs next.found, l);
         left = sym (sym (drop-drop k count all_words) ∙ ap (drop k) then_left ∙ drop_at cs next.found k l);
@@ -155,9 +152,9 @@ module _ (number : Carried → ℕ) where
   unfolding cells_after
   length-cells cs out h = length-append (map number cs) (drop (length cs) out) ∙ omega (arith, length_numbers cs, length-drop (length cs) out)
 
-  pub cells-none : (out : List ℕ) → cells_after number [] out ≡ out
+  pub cells_none : (out : List ℕ) → cells_after number [] out ≡ out
   unfolding cells_after
-  cells-none out = refl
+  cells_none out = refl
 
   module _ (cs : List Carried) (k : ℕ) (e : length cs ≡ k) (out : List ℕ) where
     cells-before : take k (cells_after number cs out) ≡ map number cs

@@ -4,12 +4,13 @@ use native.Mathlib.Omega.{arith}
 use mathlib.Core.Path.{◌≡◌, ap}
 use mathlib.Core.List.{List, [], ◌∷◌, ◌++◌}
 use lib.ListN.{length, length-append}
+use Rattle.std.specs.Prelude.{Ok}
 use Rattle.bits.specs.Lists.{joined}
 use Rattle.crc.specs.Block.{payload}
 use Rattle.crc.proofs.Blocks.{length-payload}
 use Rattle.fib.specs.Figs.{figs, rest}
 use Rattle.fib.specs.Structure.{IsFig, AllFigs, more}
-use Rattle.fib.specs.Read.{block_refusal}
+use Rattle.fib.specs.Read.{check_block}
 use Rattle.fib.proofs.Structure.{structure}
 use Rattle.fib.proofs.Blocks.{block_length_lem}
 
@@ -24,6 +25,6 @@ joined_among [] f behind = omega (arith, length-append f (joined behind))
 joined_among (g ∷ before) f behind = omega (arith, length-append g (joined before), length-append g (joined (before ++ f ∷ behind)), joined_among before f behind)
 
 -- together they have no more bytes than the data field
-pub figs_short : (s : List ℕ) → block_refusal s ≡ 0 → length (joined (figs (payload s))) ≤ 30
+pub figs_short : (s : List ℕ) → check_block s ≡ Ok tt → length (joined (figs (payload s))) ≤ 30
 figs_short s z =
     omega (arith, ap length (structure (payload s)).all, length-append (joined (figs (payload s))) (rest (payload s)), length-payload s, block_length_lem s 0 z)

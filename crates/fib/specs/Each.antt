@@ -1,9 +1,9 @@
 -- A block by what the FIG reader says of each of its FIGs 5/1 by itself (document 02, R-2).
-use Rattle.std.specs.Prelude.{ℕ, ◌-◌, ◌≤◌, ◌≡◌, true, cond, List, [], ◌∷◌, ◌++◌, map, length, drop, replicate}
+use Rattle.std.specs.Prelude.{ℕ, ◌-◌, ◌≤◌, ◌≡◌, true, cond, List, [], ◌∷◌, ◌++◌, map, length, drop, replicate, Ok, Err}
+use Rattle.refusal.specs.declared.Refusal.{Refusal}
 use Rattle.bits.specs.Lists.{joined}
 use Rattle.crc.specs.Block.{payload}
 use Rattle.fig.specs.declared.Fig.{Fig}
-use Rattle.fig.specs.declared.Reading.TheVariants.{Taken, Refused}
 use Rattle.fig.specs.Format.{header_length}
 use Rattle.fig.specs.Read as read
 use Rattle.fig.specs.Read.{read_fig, fig_in, words_in}
@@ -30,7 +30,7 @@ origins_by f = replicate (length (words_by f)) (origin_of (fig_by f))
 
 -- the FIG reader takes it wherever there is room for its words: the answer, and the cells afterwards
 pub record IsTaken (f : List ℕ) : Type 0 where
-  pub answer : (room : ℕ) → length (words_by f) ≤ room → read_fig f room ≡ Taken (fig_by f) (length (words_by f))
+  pub answer : (room : ℕ) → length (words_by f) ≤ room → read_fig f room ≡ Ok (record { fig = fig_by f; count = length (words_by f) })
   pub after : (cells : List ℕ) → length (words_by f) ≤ length cells → read.words_after (read_fig f (length cells)) (drop header_length f) cells ≡ words_by f ++ drop (length (words_by f)) cells
 
 abbrev pub AllTaken : List (List ℕ) → Type 0
@@ -46,7 +46,7 @@ pub record GivenBy (fs : List (List ℕ)) (s : List ℕ) (room n : ℕ) : Type 0
   pub origins : (out : List ℕ) → origins_after (read_words s room) out ≡ joined (map origins_by fs) ++ drop n out
 
 -- the reading ended at a FIG 5/1 of the block, which the FIG reader refuses with the room that is left: the FIGs 5/1 before it were given
-pub record StoppedBy (s : List ℕ) (room : ℕ) (fib : Fib) (refusal : ℕ) : Type 0 where
+pub record StoppedBy (s : List ℕ) (room : ℕ) (fib : Fib) (refusal : Refusal) : Type 0 where
   pub before : List (List ℕ)
   pub fig : List ℕ
   pub behind : List (List ℕ)
@@ -54,4 +54,4 @@ pub record StoppedBy (s : List ℕ) (room : ℕ) (fib : Fib) (refusal : ℕ) : T
   pub tmc : is_tmc fig ≡ true
   pub begins : fib.at ≡ length (joined before)
   pub given : GivenBy (tmcs before) s room fib.count
-  pub refused : read_fig fig (room - fib.count) ≡ Refused refusal
+  pub refused : read_fig fig (room - fib.count) ≡ Err refusal

@@ -1,7 +1,7 @@
 -- The structure of a data field (document 02, R-2; EN 300 401, 5.2.1): FIGs one after the other, each a header byte and as many bytes more
 -- as the header counts; then nothing, or the end marker and what comes after it. That this is the only such structure is `only` in
 -- proofs/Structure.antt.
-use Rattle.std.specs.Prelude.{ℕ, zero, suc, ◌+◌, Bool, true, cond, List, [], ◌∷◌, length, take, drop, leb, eqb}
+use Rattle.std.specs.Prelude.{ℕ, zero, suc, ◌+◌, Bool, true, cond, List, [], ◌∷◌, length, take, drop, leb, eqb, Option, None, Some}
 use Rattle.bits.specs.Lists.{joined}
 use Rattle.fig.specs.Format.{following_in}
 use Rattle.fig.specs.Read.{fields}
@@ -16,14 +16,14 @@ ended (b ∷ s) = eqb b end_marker
 abbrev pub length_said : List ℕ → ℕ
 length_said s = 1 + following_in (fields s)
 
--- the bytes of the whole FIG at the front; 0 where none begins, and where it runs past the end
-unfoldable pub first_length : List ℕ → ℕ
-first_length s = cond (ended s) 0 (cond (leb (length_said s) (length s)) (length_said s) 0)
+-- the bytes of the whole FIG at the front; none where none begins, and where it runs past the end
+unfoldable pub first_length : List ℕ → Option ℕ
+first_length s = cond (ended s) None (cond (leb (length_said s) (length s)) (Some (length_said s)) None)
 
--- with n bytes in the first FIG: that one, and then the FIGs of the rest; with 0, none
-unfoldable pub figs_by : (List ℕ → List (List ℕ)) → ℕ → List ℕ → List (List ℕ)
-figs_by next zero s = []
-figs_by next (suc n) s = take (suc n) s ∷ next (drop (suc n) s)
+-- with n bytes in the first FIG: that one, and then the FIGs of the rest; without a first, none
+unfoldable pub figs_by : (List ℕ → List (List ℕ)) → Option ℕ → List ℕ → List (List ℕ)
+figs_by next None s = []
+figs_by next (Some n) s = take n s ∷ next (drop n s)
 
 -- the FIGs in at most n steps
 unfoldable pub figs_within : ℕ → List ℕ → List (List ℕ)

@@ -3,7 +3,6 @@ pub mod Figs
 pub mod Structure
 pub mod Walk
 pub mod Read
-pub mod Parts
 pub mod Answers
 pub mod Each
 pub mod Refusals

@@ -1,5 +1,5 @@
 -- What it is for bytes to be FIGs and what follows them (EN 300 401, 5.2.1).
-use Rattle.std.specs.Prelude.{ℕ, ◌≡◌, false, List, [], ◌∷◌, ◌++◌, length}
+use Rattle.std.specs.Prelude.{ℕ, ◌≡◌, false, List, [], ◌∷◌, ◌++◌, length, None}
 use Rattle.bits.specs.Lists.{joined}
 use Rattle.fib.specs.Figs.{ended, length_said, first_length}
 
@@ -17,4 +17,4 @@ pub data AllFigs : List (List ℕ) → Type 0 where
 pub record Structure (s : List ℕ) (fs : List (List ℕ)) (rest : List ℕ) : Type 0 where
   pub each : AllFigs fs
   pub all : s ≡ joined fs ++ rest
-  pub end : first_length rest ≡ 0
+  pub end : first_length rest ≡ None

@@ -1,9 +1,9 @@
 -- The FIGs 5/1 among some FIGs, read in order (document 02, R-2).
 use Rattle.std.specs.Prelude.{ℕ, ◌+◌, ◌-◌, Bool, ◌&&◌, cond, List, [], ◌∷◌, ◌++◌, map, length, drop, leb, eqb}
-use Rattle.bits.specs.Outcome.{Outcome, gives, refused}
+use Rattle.std.specs.Prelude.{Result, Ok, Err}
+use Rattle.refusal.specs.declared.Refusal.{Refusal}
 use Rattle.fig.specs.declared.Fig.{Fig}
-use Rattle.fig.specs.declared.Reading.TheVariants.{Taken, Refused}
-use Rattle.fig.specs.declared.Reading as fig
+use Rattle.fig.specs.declared.Reading.{Reading}
 use Rattle.fig.specs.Format.{header_length, type_in, extension_in}
 use Rattle.fig.specs.Read.{fields, read_fig, words_in}
 
@@ -21,18 +21,18 @@ abbrev pub carried_by : Fig → List ℕ → List Carried
 carried_by fig ws = map (λ w. record { word = w; fig = fig }) ws
 
 -- what the FIG reader answers for a FIG: its words, or its refusal
-unfoldable pub carried : fig.Reading → List ℕ → Outcome (List Carried) ℕ
-carried (Taken fig n) f = gives (carried_by fig (words_in (Taken fig n) (drop header_length f)))
-carried (Refused n) f = refused n
+unfoldable pub carried : Result Reading Refusal → List ℕ → Result (List Carried) Refusal
+carried (Ok r) f = Ok (carried_by r.fig (words_in (Ok r) (drop header_length f)))
+carried (Err refusal) f = Err refusal
 
 -- one FIG, with room for so many words: a FIG 5/1 is read, any other gives nothing
-unfoldable pub read_one : ℕ → List ℕ → Outcome (List Carried) ℕ
-read_one room f = cond (is_tmc f) (carried (read_fig f room) f) (gives [])
+unfoldable pub read_one : ℕ → List ℕ → Result (List Carried) Refusal
+read_one room f = cond (is_tmc f) (carried (read_fig f room) f) (Ok [])
 
--- how a walk ended: all FIGs were passed, or one was refused, by this number, and begins at this byte
+-- how a walk ended: all FIGs were passed, or one was refused for this reason, and begins at this byte
 pub data End : Type 0 where
   all : End
-  refused_at : ℕ → ℕ → End
+  refused_at : Refusal → ℕ → End
 
 -- the words of the FIGs that were read, in order, and how it ended
 pub record Walk : Type 0 where
@@ -40,9 +40,9 @@ pub record Walk : Type 0 where
   pub end : End
 
 -- the FIG at byte at, and then the walk over the others, after so many words; a refused FIG ends it
-unfoldable pub and_then : ℕ → Outcome (List Carried) ℕ → (ℕ → Walk) → Walk
-and_then at (gives cs) next = record { found = cs ++ (next (length cs)).found; end = (next (length cs)).end }
-and_then at (refused n) next = record { found = []; end = refused_at n at }
+unfoldable pub and_then : ℕ → Result (List Carried) Refusal → (ℕ → Walk) → Walk
+and_then at (Ok cs) next = record { found = cs ++ (next (length cs)).found; end = (next (length cs)).end }
+and_then at (Err refusal) next = record { found = []; end = refused_at refusal at }
 
 -- FIGs, the first at byte at, with room for so many words
 unfoldable pub walk_from : ℕ → ℕ → List (List ℕ) → Walk

@@ -1,35 +1,32 @@
 // FIGs one after the other, as their headers count their bytes.
-ghost use Rattle.std.specs.Prelude.{◌≡◌, length};
-ghost use Rattle.bits.specs.Lists.{joined};
-ghost use Rattle.fib.specs.Figs.{first_length, figs};
+ghost use Rattle.std.specs.Prelude.{◌≡◌};
+ghost use Rattle.fib.specs.Figs.{first_length, rest};
 
 use crate::Fib;
 
-// The bytes that the whole FIGs at the front of some bytes take together.
-pub(crate) fn figs_length(s: &[u8]) -> usize
-    ensures { result ≡ length (joined (figs s.now)) }
+// What follows the whole FIGs at the front of some bytes.
+#[tactic(auto, using(crate::proofs::Header::first_fits, crate::proofs::Structure::rest_none, crate::proofs::Structure::rest_part))]
+pub(crate) fn rest(s: &[u8]) -> &[u8]
+    ensures { result.now ≡ rest s.now }
 {
-    let mut at = 0;
-    loop {
-        let n = first_length(&s[at..]);
-        if n == 0 {
-            return at;
-        }
-        at += n;
+    let mut left = s;
+    while let Some(n) = first_length(left) {
+        left = &left[n..];
     }
+    left
 }
 
-// The bytes of the FIG at the front, 0 where there is no whole one.
-pub(crate) fn first_length(s: &[u8]) -> usize
+// The bytes of the whole FIG at the front, if there is one.
+#[tactic(auto, using(crate::proofs::Header::at_end, crate::proofs::Header::at_marker, crate::proofs::Header::counted, crate::proofs::Header::cut_off))]
+pub(crate) fn first_length(s: &[u8]) -> Option<usize>
     ensures { result ≡ first_length s.now }
 {
-    if s.len() == 0 {
-        return 0;
+    let [header, ..] = s else {
+        return None;
+    };
+    if *header == Fib::END_MARKER {
+        return None;
     }
-    let header = s[0];
-    if header == Fib::END_MARKER {
-        return 0;
-    }
-    let n = 1 + (header % Fib::COUNTS) as usize;
-    if n <= s.len() { n } else { 0 }
+    let n = 1 + (*header % Fib::COUNTS) as usize;
+    if n <= s.len() { Some(n) } else { None }
 }

@@ -5,25 +5,25 @@ ghost use Rattle.std.specs.Prelude.{◌≡◌};
 ghost use Rattle.fib.specs.Format.{unread};
 
 use crc::block::CHECK_LENGTH;
+use refusal::Refusal;
 
 mod figs;
 mod read;
 
 // How far a block was read: how many words, and the byte at which the next FIG begins.
-#[derive(Clone, Copy)]
+#[derive(Clone, Copy, Debug, Default, PartialEq, Eq)]
 pub struct Fib {
     pub count: usize,
     pub at: usize,
 }
 
-#[derive(Clone, Copy)]
+// How the FIGs of a block were read.
+#[derive(Clone, Copy, Debug, PartialEq, Eq)]
 pub enum Reading {
     // Every FIG 5/1 was read, and how many words they carry.
-    Taken(usize),
-    // A FIG 5/1 was refused: how far the block was read before it, and the refusal's number.
-    Stopped { fib: Fib, refusal: u8 },
-    // The block was refused.
-    Refused(u8),
+    Whole(usize),
+    // A FIG 5/1 was refused: how far the block was read before it, and why.
+    Stopped { fib: Fib, refusal: Refusal },
 }
 
 impl Fib {

@@ -1,4 +1,3 @@
-pub mod Checks
 pub mod Header
 pub mod Data
 pub mod Answers

@@ -8,17 +8,17 @@ mod read;
 
 // What a FIG 5/1 says of its words: D1 their width, TCId their service.
 #[repr(C)]
-#[derive(Clone, Copy)]
+#[derive(Clone, Copy, Debug, Default, PartialEq, Eq)]
 pub struct Fig {
     pub d1: u8,
     pub tcid: u8,
 }
 
-#[derive(Clone, Copy)]
-pub enum Reading {
-    // The FIG, and how many words it carries.
-    Taken { fig: Fig, count: usize },
-    Refused(u8),
+// A FIG read, and how many words it carries.
+#[derive(Clone, Copy, Debug, Default, PartialEq, Eq)]
+pub struct Reading {
+    pub fig: Fig,
+    pub count: usize,
 }
 
 impl Fig {
@@ -65,6 +65,7 @@ impl Fig {
     }
 
     // The bits of a word.
+    #[tactic(auto, unfolding(crate::specs::Format::word_width))]
     pub fn width(self) -> usize
         ensures { result ≡ word_width self.d1 }
     {

@@ -9,10 +9,6 @@ pub fn keep(s: &mut [u8], from: usize) -> usize
     ensures s_after { s.new ≡ kept from s.old }
 {
     let n = s.len() - from;
-    let mut i = 0;
-    while i < n {
-        s[i] = s[from + i];
-        i += 1;
-    }
+    s.copy_within(from.., 0);
     n
 }

@@ -28,16 +28,15 @@ impl Frame {
     pub const LONGEST: usize = 130;
 
     // What the bytes at hand begin with.
+    #[tactic(auto, unfolding(crate::specs::Frame::frame_of))]
     pub fn of(s: &[u8]) -> Frame
         ensures { result ≡ frame_of s.now }
     {
-        if s.len() == 0 {
-            return Frame::End;
+        match s {
+            [] => Frame::End,
+            [_] => Frame::Part,
+            [low, high, rest @ ..] => framed(little(*low, *high), rest.len()),
         }
-        if s.len() < Frame::LENGTH {
-            return Frame::Part;
-        }
-        framed(little(s[0], s[1]), s.len() - Frame::LENGTH)
     }
 }
 
@@ -45,10 +44,11 @@ impl Frame {
 pub fn little(low: u8, high: u8) -> usize
     ensures { result ≡ Frame·little low high }
 {
-    low as usize + high as usize * 256
+    usize::from(u16::from_le_bytes([low, high]))
 }
 
 // By the length, and how many bytes there are after it.
+#[tactic(auto, unfolding(crate::specs::Frame::framed))]
 fn framed(n: usize, there: usize) -> Frame
     ensures { result ≡ Frame·framed n there }
 {

@@ -1,20 +1,20 @@
 -- What a table, a catalogue and lives that fit say.
 use Prim.Native.Nat.{ℕ, zero, suc, ◌+◌, ◌*◌, ◌/◌, ◌%◌, ◌≤◌, ◌<◌}
 use native.Mathlib.Omega.{arith}
-use mathlib.Core.Path.{◌≡◌, refl, sym, ap, ap₂, ◌∙◌}
+use mathlib.Core.Path.{◌≡◌, refl, ap, ◌∙◌}
 use mathlib.Core.Bool.{Bool, true, false, not, ◌&&◌, ◌||◌}
 use mathlib.Core.List.{List, [], ◌∷◌}
 use lib.ListN.{length, take, drop, get_or, get_or-eq_default}
 use lib.Seq.{drop-drop}
 use lib.Dec.{leb, ltb, eqb}
-use borrow.Author.Tests.{eqb-true, eqb-false, ne_eqb, leb-true, ltb-true, ltb-false}
+use borrow.Author.Tests.{eqb-true, eqb-false, leb-true, ltb-true, ltb-false}
 use Rattle.bits.proofs.Choice.{and_left, and_right}
 use Rattle.clock.specs.Time.{longest_life}
 use Rattle.record.specs.Layout.{record_size, free_record}
 use Rattle.record.specs.WellFormed.{well_formed}
 use Rattle.lent.specs.Records.{chunks, records, all_of}
 use Rattle.lent.specs.Table.{sized, table_fits}
-use Rattle.lent.specs.Catalogue.{class_of, kind_of, has_class, entry_fits, catalogue_fits}
+use Rattle.lent.specs.Catalogue.{class_of, has_class, entry_fits, catalogue_fits}
 use Rattle.lent.specs.Lives.{lives_fit}
 use Rattle.lent.specs.Lent.{lent_fit}
 use Rattle.lent.proofs.Passes.{nth}
@@ -49,7 +49,6 @@ chunk_at (suc n) (suc i) t h = chunk_at n i (drop record_size t) (omega arith) �
 
 -- a test that holds of every one holds of each
 pub all_at : {A : Type 0} (p : A → Bool) (xs : List A) (i : ℕ) (d : A) → all_of p xs ≡ true → i < length xs → p (get_or xs i d) ≡ true
-unfolding all_of
 all_at p [] i d a h = absurd (omega arith)
 all_at p (x ∷ xs) zero d a h = and_left (p x) (all_of p xs) a
 all_at p (x ∷ xs) (suc i) d a h = all_at p xs i d (and_right (p x) (all_of p xs) a) (omega arith)
@@ -59,19 +58,8 @@ pub class-some : (x : ℕ) → entry_fits x ≡ true → has_class x ≡ true �
 unfolding entry_fits
 class-some x h has = by_class (eqb (class_of x) 0) refl (and_right (ltb x 512) _ h)
   where
-    neither : (kind_of x ≡ 1 → ⊥) → (kind_of x ≡ 2 → ⊥) → 1 ≤ class_of x
-    neither one two =
-        let f : false ≡ true = sym (ap₂ (λ (u v : Bool). u || v) (ne_eqb (kind_of x) 1 one) (ne_eqb (kind_of x) 2 two)) ∙ has in
-        let z : ◌≡◌ {A = ℕ} 0 1 = cc in
-        absurd (omega arith)
-
-    by_kind : (u v : Bool) → eqb (kind_of x) 0 ≡ u → eqb (kind_of x) 3 ≡ v → (u || v) || false ≡ true → 1 ≤ class_of x
-    by_kind true v e f k = let z = eqb-true (kind_of x) 0 e in neither (λ y. omega arith) (λ y. omega arith)
-    by_kind false true e f k = let z = eqb-true (kind_of x) 3 f in neither (λ y. omega arith) (λ y. omega arith)
-    by_kind false false e f k = let z : ◌≡◌ {A = ℕ} 0 1 = cc in absurd (omega arith)
-
-    by_class : (b : Bool) → eqb (class_of x) 0 ≡ b → b && (eqb (kind_of x) 0 || eqb (kind_of x) 3) || not b && has_class x ≡ true → 1 ≤ class_of x
-    by_class true e k = by_kind (eqb (kind_of x) 0) (eqb (kind_of x) 3) refl refl k
+    by_class : (b : Bool) → eqb (class_of x) 0 ≡ b → b && not (has_class x) || not b && has_class x ≡ true → 1 ≤ class_of x
+    by_class true e k = let none : not (has_class x) || false ≡ false = ap (λ (c : Bool). not c || false) has in absurd (cc)
     by_class false e k = let some = eqb-false (class_of x) 0 e in omega arith
 
 -- an entry of a catalogue that fits; past its end is that of an unknown event

@@ -1,14 +1,15 @@
 -- Passes over the records, and over the entries of a list.
-use Prim.Native.Nat.{ℕ, suc, ◌+◌, ◌-◌, ◌*◌, ◌/◌, ◌≤◌, ◌<◌}
-use native.Mathlib.Numerals.{add-one}
+use Prim.Native.Nat.{ℕ, suc, ◌+◌, ◌-◌, ◌*◌, ◌/◌, ◌<◌}
 use native.Mathlib.Omega.{arith}
-use mathlib.Core.Path.{◌≡◌, sym, ap, ◌∙◌}
-use mathlib.Core.Bool.{Bool, true, ◌&&◌, and_assoc, and-true}
-use mathlib.Core.List.{List, [], ◌∷◌}
-use lib.ListN.{length, take, drop, get_or, length-take, length-drop}
-use lib.Seq.{drop-drop, drop-cons, drop-length, get_or-take, get_or-drop}
+use mathlib.Core.Path.{◌≡◌, ap, subst, ◌∙◌}
+use mathlib.Core.Bool.{Bool, true, ◌&&◌}
+use mathlib.Core.List.{List, [], ◌∷◌, ◌++◌}
+use lib.ListN.{length, take, drop, get_or, length-take, length-drop, length-append}
+use lib.Seq.{drop-drop, take_at, drop_at, get_or-take, get_or-drop, get_or-append-add}
 use Rattle.record.specs.Layout.{record_size}
-use Rattle.lent.specs.Records.{chunks, all_of}
+use Rattle.record.proofs.Ranges.{take_lt}
+use Rattle.record.proofs.Zeros.{Bytes}
+use Rattle.lent.specs.Records.{chunks, records, all_of}
 
 -- record i
 abbrev pub nth : List ℕ → ℕ → List ℕ
@@ -49,26 +50,26 @@ rest-none n i t e = let z : n - i ≡ 0 = omega arith in ap (λ (m : ℕ). chunk
 -- a test of every record
 module _ (p : List ℕ → Bool) (n i : ℕ) (t : List ℕ) where
   pub all-next : i < n → all_of p (chunks (n - i) (drop (i * record_size) t)) ≡ p (nth t i) && all_of p (chunks (n - (i + 1)) (drop ((i + 1) * record_size) t))
-  unfolding all_of
   all-next h = ap (all_of p) (rest_of n i t h)
 
   pub all_end : i ≡ n → all_of p (chunks (n - i) (drop (i * record_size) t)) ≡ true
-  unfolding all_of
   all_end e = ap (all_of p) (rest-none n i (drop (i * record_size) t) e)
 
--- a test of every entry
-module _ (p : ℕ → Bool) (l : List ℕ) (i : ℕ) where
-  pub entry_next : i < length l → all_of p (drop i l) ≡ p (get_or l i 0) && all_of p (drop (i + 1) l)
-  unfolding all_of
-  entry_next h = ap (all_of p) (drop-cons l i 0 h) ∙ ap (λ (k : ℕ). p (get_or l i 0) && all_of p (drop k l)) (sym (add-one i))
+-- the records of bytes that begin with one, and of too few bytes
+pub records_cons : (x t : List ℕ) → length x ≡ record_size → records (x ++ t) ≡ x ∷ records t
+unfolding records chunks
+records_cons x t long =
+    let n : length (x ++ t) / record_size ≡ suc (length t / record_size) = omega (arith, length-append x t) in
+    ap (λ (m : ℕ). chunks m (x ++ t)) n ∙ (λ i. take_at x t record_size long i ∷ chunks (length t / record_size) (drop_at x t record_size long i))
 
-  pub entry_end : length l ≤ i → i ≤ length l → all_of p (drop i l) ≡ true
-  unfolding all_of
-  entry_end a b = let e : i ≡ length l = omega arith in ap (λ (k : ℕ). all_of p (drop k l)) e ∙ ap (all_of p) (drop-length l)
+pub records_none : (t : List ℕ) → length t < record_size → records t ≡ []
+unfolding records chunks
+records_none t short = let n : length t / record_size ≡ 0 = omega arith in ap (λ (m : ℕ). chunks m t) n
 
-  -- taken together with what is known of those before
-  pub entry_after : (b : Bool) → i < length l → b && all_of p (drop i l) ≡ (b && p (get_or l i 0)) && all_of p (drop (i + 1) l)
-  entry_after b h = ap (λ (c : Bool). b && c) (entry_next h) ∙ sym (and_assoc b (p (get_or l i 0)) (all_of p (drop (i + 1) l)))
+-- the bytes of the first record, and those after it
+module _ (x t : List ℕ) (long : length x ≡ record_size) (bytes : Bytes (x ++ t)) where
+  pub first_bytes : Bytes x
+  first_bytes k = subst (λ (l : List ℕ). get_or l k 0 < 256) (take_at x t record_size long) (take_lt record_size 0 (x ++ t) k bytes)
 
-  pub entry_done : (b : Bool) → length l ≤ i → i ≤ length l → b && all_of p (drop i l) ≡ b
-  entry_done b past within = ap (λ (c : Bool). b && c) (entry_end past within) ∙ and-true b
+  pub later_bytes : Bytes t
+  later_bytes k = subst (λ (n : ℕ). n < 256) (get_or-append-add x t k 0) (bytes (length x + k))

@@ -1,5 +1,7 @@
 -- The catalogue (document 01, "The message table").
-use Rattle.std.specs.Prelude.{ℕ, ◌/◌, ◌%◌, Bool, not, ◌&&◌, ◌||◌, List, length, get_or, eqb, ltb}
+use Rattle.std.specs.Prelude.{ℕ, zero, suc, ◌/◌, ◌%◌, Bool, true, false, not, ◌&&◌, ◌||◌, List, length, get_or, eqb, ltb}
+use Rattle.lent.specs.declared.catalogue.Kind.{Kind}
+use Rattle.lent.specs.declared.catalogue.Kind.TheVariants.{Unknown, Ordinary, Cancelling, Null}
 use Rattle.lent.specs.Records.{all_of}
 
 -- the entry of an event
@@ -10,23 +12,34 @@ entry_at catalogue event = get_or catalogue event 0
 abbrev pub class_of : ℕ → ℕ
 class_of entry = entry % 64
 
--- its kind: 0 unknown, 1 ordinary, 2 cancelling, 3 null
-abbrev pub kind_of : ℕ → ℕ
-kind_of entry = entry / 64 % 4
+-- the kinds by their numbers
+abbrev pub kind_at : ℕ → Kind
+kind_at zero = Unknown
+kind_at (suc zero) = Ordinary
+kind_at (suc (suc zero)) = Cancelling
+kind_at (suc (suc (suc n))) = Null
 
--- an event of kind 1 or 2 has a class, one of kind 0 or 3 has none
+-- its kind: 0 unknown, 1 ordinary, 2 cancelling, 3 null
+abbrev pub kind_of : ℕ → Kind
+kind_of entry = kind_at (entry / 64 % 4)
+
+-- an ordinary and a cancelling event have a class, an unknown and a null one have none
+abbrev pub classed : Kind → Bool
+classed Unknown = false
+classed Ordinary = true
+classed Cancelling = true
+classed Null = false
+
 abbrev pub has_class : ℕ → Bool
-has_class entry = eqb (kind_of entry) 1 || eqb (kind_of entry) 2
+has_class entry = classed (kind_of entry)
 
 -- its duration type
 abbrev pub type_of : ℕ → ℕ
 type_of entry = entry / 256 % 2
 
--- no bit above the duration type, and class 0 exactly if the kind is 0 or 3
+-- no bit above the duration type, and class 0 exactly if the kind is unknown or null
 unfoldable pub entry_fits : ℕ → Bool
-entry_fits x =
-    ltb x 512
-    && (eqb (class_of x) 0 && (eqb (kind_of x) 0 || eqb (kind_of x) 3) || not (eqb (class_of x) 0) && has_class x)
+entry_fits x = ltb x 512 && (eqb (class_of x) 0 && not (has_class x) || not (eqb (class_of x) 0) && has_class x)
 
 -- an entry for each of the 2,048 events
 unfoldable pub catalogue_fits : List ℕ → Bool

@@ -4,20 +4,20 @@ ghost use Rattle.lent.specs.Catalogue.{entry_at, class_of, kind_of, has_class, t
 
 use crate::Lent;
 
+// A kind of event.
+#[derive(Clone, Copy, Debug, PartialEq, Eq)]
+pub enum Kind {
+    Unknown,
+    Ordinary,
+    Cancelling,
+    Null,
+}
+
 // An entry of a catalogue.
-#[derive(Clone, Copy)]
+#[derive(Clone, Copy, Debug, Default, PartialEq, Eq)]
 pub struct Entry(pub u16);
 
 impl Entry {
-    // The kinds of events.
-    pub const UNKNOWN: u16 = 0;
-
-    pub const ORDINARY: u16 = 1;
-
-    pub const CANCELLING: u16 = 2;
-
-    pub const NULL: u16 = 3;
-
     // An entry is the class, and above it the kind and the duration type: how many there are of each.
     const CLASSES: u16 = 64;
 
@@ -34,12 +34,7 @@ impl Entry {
     pub fn of_event(catalogue: &[u16], event: u16) -> Self
         ensures { result.0 ≡ entry_at catalogue.now event }
     {
-        let at = event as usize;
-        if at < catalogue.len() {
-            Entry(catalogue[at])
-        } else {
-            Entry(0)
-        }
+        Entry(catalogue.get(event as usize).copied().unwrap_or(0))
     }
 
     // The update class, 0 for none.
@@ -49,18 +44,22 @@ impl Entry {
         (self.0 % Self::CLASSES) as u8
     }
 
-    pub fn kind(self) -> u16
+    pub fn kind(self) -> Kind
         ensures { result ≡ kind_of self.0 }
     {
-        self.0 / Self::CLASSES % Self::KINDS
+        match self.0 / Self::CLASSES % Self::KINDS {
+            0 => Kind::Unknown,
+            1 => Kind::Ordinary,
+            2 => Kind::Cancelling,
+            _ => Kind::Null,
+        }
     }
 
     // Whether the event has an update class: if it is ordinary or cancelling.
     pub fn has_class(self) -> bool
         ensures { result ≡ has_class self.0 }
     {
-        let kind = self.kind();
-        (kind == Self::ORDINARY) | (kind == Self::CANCELLING)
+        matches!(self.kind(), Kind::Ordinary | Kind::Cancelling)
     }
 
     pub fn duration_type(self) -> u16
@@ -70,6 +69,7 @@ impl Entry {
     }
 
     // Whether the class is 0 exactly if the kind is unknown or null, and nothing stands above the duration type.
+    #[tactic(auto, unfolding(crate::specs::Catalogue::entry_fits))]
     pub fn fits(self) -> bool
         ensures { result ≡ entry_fits self.0 }
     {
@@ -77,19 +77,14 @@ impl Entry {
     }
 }
 
-// Whether there are 2,048 entries and each fits.
+// Whether there are 2,048 entries and each fits. Every entry is tested: with no way out between them they are tested side by side.
+#[tactic(auto, unfolding(crate::specs::Catalogue::catalogue_fits))]
 pub fn catalogue_fits(c: &[u16]) -> bool
     ensures { result ≡ catalogue_fits c.now }
 {
     if c.len() != Lent::EVENTS {
         return false;
     }
-    let mut fits = true;
-    let mut i = 0;
-    while i < c.len() {
-        let entry = Entry(c[i]);
-        fits = fits & entry.fits();
-        i += 1;
-    }
-    fits
+    c.iter()
+        .fold(true, |fits, entry| fits & Entry(*entry).fits())
 }

@@ -30,6 +30,7 @@ impl Lent {
 }
 
 // Whether the table, the catalogue and the lives are well-formed.
+#[tactic(auto, unfolding(crate::specs::Lent::lent_fit))]
 pub fn lent_fit(t: &[u8], catalogue: &[u16], lives: &[u16]) -> bool
     ensures { result ≡ lent_fit t.now catalogue.now lives.now }
 {

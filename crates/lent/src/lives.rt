@@ -6,18 +6,12 @@ use crate::Lent;
 use clock::Utc;
 
 // Whether there are 16 lives of at most 10,080 minutes.
+#[tactic(auto, unfolding(crate::specs::Lives::lives_fit))]
 pub fn lives_fit(l: &[u16]) -> bool
     ensures { result ≡ lives_fit l.now }
 {
     if l.len() != Lent::LIVES {
         return false;
     }
-    let mut i = 0;
-    while i < l.len() {
-        if Utc::LONGEST_LIFE < l[i] {
-            return false;
-        }
-        i += 1;
-    }
-    true
+    l.iter().all(|life| *life <= Utc::LONGEST_LIFE)
 }

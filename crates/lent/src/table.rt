@@ -10,40 +10,30 @@ use record::Record;
 use record::test::{bytes_fit, zero_bits};
 
 // Whether the bytes are 1 to 1,024 well-formed records.
+#[tactic(auto, unfolding(crate::specs::Table::table_fits, crate::specs::Table::sized))]
 pub fn table_fits(t: &[u8]) -> bool
     ensures { result ≡ table_fits t.now }
 {
     let size = t.len();
-    if (Record::SIZE <= size)
-        & ((size <= Lent::RECORDS * Record::SIZE) & (size % Record::SIZE == 0))
-    {
-        records_fit(t)
-    } else {
-        false
-    }
+    let sized = (Record::SIZE <= size)
+        & ((size <= Lent::RECORDS * Record::SIZE) & (size % Record::SIZE == 0));
+    sized && records_fit(t)
 }
 
-// Whether every record is well-formed: all its bytes have zeros where they must, eight bytes at a time.
+// Whether every record is well-formed: all its bytes have zeros where they must, eight bytes at a time. The first that have not end both loops.
 fn records_fit(t: &[u8]) -> bool
     requires { length t.now % record_size ≡ 0 }
     ensures { result ≡ all_of well_formed (records t.now) }
 {
-    let n = t.len() / Record::SIZE;
     let zeros = zero_bits();
-    let mut i = 0;
-    'records: loop {
-        if i == n {
-            break true;
-        }
-        let a = i * Record::SIZE;
-        let e = a + Record::SIZE;
-        let mut j = 0;
-        while j < Record::SIZE {
-            if !bytes_fit(&t[a..e], &zeros, j) {
-                break 'records false;
+    let mut fit = true;
+    'records: for r in t.chunks_exact(Record::SIZE) {
+        for j in (0..Record::SIZE).step_by(Record::STEP) {
+            if !bytes_fit(r, &zeros, j) {
+                fit = false;
+                break 'records;
             }
-            j += Record::STEP;
         }
-        i += 1;
     }
+    fit
 }

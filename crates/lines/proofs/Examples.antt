@@ -2,7 +2,8 @@
 use mathlib.Core.Path.{◌≡◌, refl}
 use mathlib.Core.List.{[], ◌∷◌}
 use Rattle.content.specs.Stored.{filled}
-use Rattle.report.specs.declared.Refusal.TheVariants.{Plain, Broken}
+use Rattle.refusal.specs.declared.Refusal.TheVariants.{WrongLength, CutShort, Label15}
+use Rattle.report.specs.declared.Unreadable.TheVariants.{Refused, Broken}
 use Rattle.report.specs.Report.{single_report}
 use Rattle.lines.specs.Decimal.{spelled, decimal}
 use Rattle.lines.specs.Line.{fields, line, report_line, marked, refusal_line}
@@ -28,15 +29,15 @@ unfolding filled decimal spelled fields line
 a_report = refl
 
 -- `! 3 1`
-pub a_refusal : refusal_line 3 (Plain 1) ≡ 33 ∷ 32 ∷ 51 ∷ 32 ∷ 49 ∷ 10 ∷ []
+pub a_refusal : refusal_line 3 (Refused WrongLength) ≡ 33 ∷ 32 ∷ 51 ∷ 32 ∷ 49 ∷ 10 ∷ []
 unfolding decimal spelled fields marked refusal_line
 a_refusal = refl
 
 -- `! 3 7 24` and `! 3 8 0`
-pub broken_content : refusal_line 3 (Broken 7 24) ≡ 33 ∷ 32 ∷ 51 ∷ 32 ∷ 55 ∷ 32 ∷ 50 ∷ 52 ∷ 10 ∷ []
+pub broken_content : refusal_line 3 (Broken CutShort 24) ≡ 33 ∷ 32 ∷ 51 ∷ 32 ∷ 55 ∷ 32 ∷ 50 ∷ 52 ∷ 10 ∷ []
 unfolding decimal spelled fields marked refusal_line
 broken_content = refl
 
-pub broken_at_once : refusal_line 3 (Broken 8 0) ≡ 33 ∷ 32 ∷ 51 ∷ 32 ∷ 56 ∷ 32 ∷ 48 ∷ 10 ∷ []
+pub broken_at_once : refusal_line 3 (Broken Label15 0) ≡ 33 ∷ 32 ∷ 51 ∷ 32 ∷ 56 ∷ 32 ∷ 48 ∷ 10 ∷ []
 unfolding decimal spelled fields marked refusal_line
 broken_at_once = refl

@@ -9,7 +9,7 @@ use lib.ListN.{length, take, drop, set, length-append, take-append-drop}
 use lib.Seq.{take_at, drop_at, drop-drop, length-take-le, set_split, append_snoc}
 use Rattle.lines.specs.Text.{put, Put}
 
-pub put-none : (a : ℕ) (l : List ℕ) → put a [] l ≡ l
+put-none : (a : ℕ) (l : List ℕ) → put a [] l ≡ l
 unfolding put
 put-none a l = ap₂ (λ (x : List ℕ) (n : ℕ). x ++ drop n l) (append-nil (take a l)) (add-zero a) ∙ take-append-drop a l
 
@@ -41,22 +41,6 @@ put_then a t u l h p q = (
   q.1 ∙ ap₂ (λ (x : ℕ) (y : List ℕ). put x u y) p.0 p.1 ∙ put-append a t u l h,
 )
 
--- of a text t that goes to a in l, the rest is still to go to p in m
-pub record Left (a : ℕ) (t l rest : List ℕ) (p : ℕ) (m : List ℕ) : Type 0 where
-  pub whole : put p rest m ≡ put a t l
-  pub position : p + length rest ≡ a + length t
-  pub same : length m ≡ length l
-
-pub left_all : (a : ℕ) (t l : List ℕ) → Left a t l t a l
-left_all a t l = record { whole = refl; position = refl; same = refl }
-
-pub left_more : (a : ℕ) (t l u rest : List ℕ) (p e : ℕ) (m n : List ℕ) → p ≤ length m → Left a t l (u ++ rest) p m → Put p u m e n → length n ≡ length m → Left a t l rest e n
-left_more a t l u rest p e m n h left q k =
-    record {
-      whole = ap₂ (λ (x : ℕ) (y : List ℕ). put x rest y) q.0 q.1 ∙ put-append p u rest m h ∙ left.whole;
-      position = omega (arith, q.0, left.position, length-append u rest);
-      same = k ∙ left.same;
-    }
-
-pub left_none : (a : ℕ) (t l : List ℕ) (p : ℕ) (m : List ℕ) → Left a t l [] p m → Put a t l p m
-left_none a t l p m left = (omega (arith, left.position), sym (put-none p m) ∙ left.whole)
+-- no text
+pub put_nothing : (a : ℕ) (l : List ℕ) → Put a [] l a l
+put_nothing a l = (sym (add-zero a), sym (put-none a l))

@@ -1,8 +1,9 @@
 -- The lines of a listing (document 01, "The listing program").
 use Rattle.std.specs.Prelude.{ℕ, List, [], ◌∷◌, ◌++◌}
 use Rattle.report.specs.declared.Report.{Report}
-use Rattle.report.specs.declared.Refusal.{Refusal}
-use Rattle.report.specs.declared.Refusal.TheVariants.{Plain, Broken}
+use Rattle.refusal.specs.Number.{number}
+use Rattle.report.specs.declared.Unreadable.{Unreadable}
+use Rattle.report.specs.declared.Unreadable.TheVariants.{Refused, Broken}
 use Rattle.report.specs.declared.Form.{Form}
 use Rattle.report.specs.declared.Form.TheVariants.{Single, Multi}
 use Rattle.lines.specs.Decimal.{decimal}
@@ -47,11 +48,14 @@ report_line number r = line number r.form (values r)
 unfoldable pub marked : List ℕ → List ℕ
 marked vs = (33 ∷ []) ++ fields vs ++ newline ∷ []
 
--- `! R N`: the frame's number, the refusal; and where content breaks `! R N P` with the place (document 02, R-8)
-unfoldable pub refusal_line : ℕ → Refusal → List ℕ
-refusal_line number (Plain n) = marked (number ∷ n ∷ [])
-refusal_line number (Broken n place) = marked (number ∷ n ∷ place ∷ [])
+-- `! R N`: the frame's number, the refusal's; and where content breaks `! R N P` with the place (document 02, R-8)
+unfoldable pub refusal_line : ℕ → Unreadable → List ℕ
+refusal_line frame (Refused refusal) = marked (frame ∷ number refusal ∷ [])
+refusal_line frame (Broken refusal place) = marked (frame ∷ number refusal ∷ place ∷ [])
 
--- a line of numbers of 64 bits has at most so many characters
+-- a line of numbers of 64 bits has at most so many characters, and a number after a space
 abbrev pub room : ℕ
 room = 170
+
+abbrev pub field_room : ℕ
+field_room = 21

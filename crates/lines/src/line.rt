@@ -1,15 +1,16 @@
 // The header, the line of a report and the line of a refusal.
-ghost use Rattle.std.specs.Prelude.{◌≡◌, ◌+◌, ◌≤◌, length};
+ghost use Rattle.std.specs.Prelude.{◌≡◌, ◌+◌, ◌*◌, ◌≤◌, length};
 ghost use Rattle.lines.specs.Text.{Put};
-ghost use Rattle.lines.specs.Line.{header, room, letter as Line·letter, form_text, line, report_line, marked, refusal_line};
+ghost use Rattle.lines.specs.Line.{header, room, field_room, letter as Line·letter, form_text, line, report_line, marked, refusal_line};
 
 use crate::text::{put_byte, put_bytes, put_decimal, put_fields};
-use report::{Form, Refusal, Report};
+use report::{Form, Report, Unreadable};
 
 // The room that a line takes at most.
 pub const ROOM: usize = 170;
 
 // The header.
+#[tactic(auto, unfolding(crate::specs::Line::header))]
 pub fn put_header(out: &mut [u8], at: usize) -> usize
     requires { at + room ≤ length out.old }
     ensures { Put at header out.old result out.new }
@@ -28,7 +29,6 @@ pub fn put_report(out: &mut [u8], at: usize, number: u64, report: Report) -> usi
     ensures upper_bound { result ≤ at + room }
 {
     let head = report.head;
-    let items = report.items;
     let values = [
         head.event as u64,
         head.location as u64,
@@ -36,16 +36,17 @@ pub fn put_report(out: &mut [u8], at: usize, number: u64, report: Report) -> usi
         head.extent as u64,
         report.diversion as u64,
         report.duration as u64,
-        items.count as u64,
+        report.items.count as u64,
     ];
-    let form = report.form;
-    put_line(out, at, number, form, &values)
+    put_line(out, at, number, report.form, &values)
 }
 
 // A number, the letter of a form and the fields after it.
+#[tactic(auto, using(crate::proofs::Rooms::digits_64))]
 fn put_line(out: &mut [u8], at: usize, number: u64, form: Form, values: &[u64]) -> usize
-    requires { at + length (line number form values.now) ≤ length out.old }
-    ensures { Put at (line number form values.now) out.old result out.new }
+    requires { at + 23 + field_room * length values.now ≤ length out.old }
+    ensures put { Put at (line number form values.now) out.old result out.new }
+    ensures upper_bound { result ≤ at + 23 + field_room * length values.now }
 {
     let next = put_decimal(out, at, number);
     let after = put_form(out, next, form);
@@ -58,8 +59,7 @@ fn put_form(out: &mut [u8], at: usize, form: Form) -> usize
     requires { at + 2 ≤ length out.old }
     ensures { Put at (form_text form) out.old result out.new }
 {
-    let next = put_byte(out, at, b' ');
-    put_byte(out, next, letter(form))
+    put_bytes(out, at, &[b' ', letter(form)])
 }
 
 // The letter of a form.
@@ -73,27 +73,28 @@ fn letter(form: Form) -> u8
 }
 
 // The line of a refusal in the frame with this number, with the place where it has one.
-pub fn put_refusal(out: &mut [u8], at: usize, frame: u64, refusal: Refusal) -> usize
+pub fn put_refusal(out: &mut [u8], at: usize, frame: u64, refusal: Unreadable) -> usize
     requires { at + room ≤ length out.old }
     ensures put { Put at (refusal_line frame refusal) out.old result out.new }
     ensures upper_bound { result ≤ at + room }
 {
     match refusal {
-        Refusal::Plain(number) => {
-            let values = [frame, number as u64];
-            put_marked(out, at, &values)
+        Unreadable::Refused(refusal) => {
+            put_marked(out, at, &[frame, u64::from(u8::from(refusal))])
         }
-        Refusal::Broken { number, place } => {
-            let values = [frame, number as u64, place as u64];
-            put_marked(out, at, &values)
-        }
+        Unreadable::Broken { refusal, place } => put_marked(
+            out,
+            at,
+            &[frame, u64::from(u8::from(refusal)), u64::from(place)],
+        ),
     }
 }
 
 // The mark of a refusal and the numbers after it.
 fn put_marked(out: &mut [u8], at: usize, values: &[u64]) -> usize
-    requires { at + length (marked values.now) ≤ length out.old }
-    ensures { Put at (marked values.now) out.old result out.new }
+    requires { at + 2 + field_room * length values.now ≤ length out.old }
+    ensures put { Put at (marked values.now) out.old result out.new }
+    ensures upper_bound { result ≤ at + 2 + field_room * length values.now }
 {
     let next = put_byte(out, at, b'!');
     let end = put_fields(out, next, values);

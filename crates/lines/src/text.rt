@@ -1,10 +1,12 @@
-// Bytes and decimal numbers in a lent buffer.
-ghost use Rattle.std.specs.Prelude.{◌≡◌, [], ◌∷◌, ◌+◌, ◌≤◌, ◌<◌, length};
+// Bytes and decimal numbers in a lent buffer. The buffer and the position stay two parameters: in a struct that holds both each clause would
+// speak of a buffer lent to a lent struct, and each caller that goes on with the buffer would take the struct apart.
+ghost use Rattle.std.specs.Prelude.{◌≡◌, [], ◌∷◌, ◌+◌, ◌*◌, ◌≤◌, ◌<◌, length};
 ghost use Rattle.lines.specs.Text.{Put};
 ghost use Rattle.lines.specs.Decimal.{digit as Decimal·digit, decimal};
-ghost use Rattle.lines.specs.Line.{fields, space};
+ghost use Rattle.lines.specs.Line.{fields, space, field_room};
 
 // One byte.
+#[tactic(auto, using(crate::proofs::Puts::put_one))]
 pub fn put_byte(out: &mut [u8], at: usize, b: u8) -> usize
     requires { at < length out.old }
     ensures { Put at (b ∷ []) out.old result out.new }
@@ -14,20 +16,18 @@ pub fn put_byte(out: &mut [u8], at: usize, b: u8) -> usize
 }
 
 // Some bytes.
+#[tactic(auto, unfolding(crate::specs::Text::put))]
 pub fn put_bytes(out: &mut [u8], at: usize, s: &[u8]) -> usize
     requires { at + length s.now ≤ length out.old }
     ensures { Put at s.now out.old result out.new }
 {
-    let mut p = at;
-    let mut i = 0;
-    while i < s.len() {
-        p = put_byte(out, p, s[i]);
-        i += 1;
-    }
-    p
+    let end = at + s.len();
+    out[at..end].copy_from_slice(s);
+    end
 }
 
 // A number.
+#[tactic(auto, using(crate::proofs::Decimals::decimal_digit))]
 pub fn put_decimal(out: &mut [u8], at: usize, n: u64) -> usize
     requires { at + length (decimal n) ≤ length out.old }
     ensures { Put at (decimal n) out.old result out.new }
@@ -50,22 +50,23 @@ fn digit(d: u64) -> u8
 
 // Numbers, each after a space.
 pub fn put_fields(out: &mut [u8], at: usize, values: &[u64]) -> usize
-    requires { at + length (fields values.now) ≤ length out.old }
-    ensures { Put at (fields values.now) out.old result out.new }
+    requires { at + field_room * length values.now ≤ length out.old }
+    ensures put { Put at (fields values.now) out.old result out.new }
+    ensures upper_bound { result ≤ at + field_room * length values.now }
 {
-    let mut p = at;
-    let mut i = 0;
-    while i < values.len() {
-        p = put_field(out, p, values[i]);
-        i += 1;
+    let mut end = at;
+    for value in values {
+        end = put_field(out, end, *value);
     }
-    p
+    end
 }
 
 // A number after a space.
+#[tactic(auto, using(crate::proofs::Rooms::digits_64))]
 fn put_field(out: &mut [u8], at: usize, n: u64) -> usize
-    requires { at + length (space ∷ decimal n) ≤ length out.old }
-    ensures { Put at (space ∷ decimal n) out.old result out.new }
+    requires { at + field_room ≤ length out.old }
+    ensures put { Put at (space ∷ decimal n) out.old result out.new }
+    ensures upper_bound { result ≤ at + field_room }
 {
     let next = put_byte(out, at, b' ');
     put_decimal(out, next, n)

@@ -11,7 +11,7 @@ use Rattle.framing.specs.Frame.{little, length_fits, framed, frame_of}
 use Rattle.session.specs.declared.Session.{Session}
 use Rattle.session.specs.Session.{frame_room}
 use Rattle.recording.specs.declared.Progress.{Progress}
-use Rattle.recording.specs.Listing.{Listed, lines_from, lines_left, whole, ended_at, refused_at}
+use Rattle.recording.specs.Listing.{Listed, lines_from, lines_left, whole, end_at}
 use Rattle.recording.proofs.Lines.{end_lines}
 use Rattle.listing.specs.declared.State.{State}
 use Rattle.listing.specs.Owed.{at_hand, to_come, due, KeepsOwed, Reads}
@@ -66,7 +66,7 @@ bad_front (a ∷ b ∷ l) h w = framed_bad (little a b) (length l) (length_fits 
 
 -- such bytes print the same whatever follows
 bad_lines : (s : Session) (l left : List ℕ) → frame_of l ≡ Bad → lines_from s (l ++ left) ≡ lines_from s (l ++ [])
-unfolding whole ended_at refused_at
+unfolding whole end_at
 bad_lines s l left e = end_lines s l left false Bad e refl (λ h. elim (true≢false (sym h)) [ ]) ∙ sym (end_lines s l [] false Bad e refl (λ h. refl))
 
 -- what may still come does not count where the reader is at its end, or where the buffer is full

@@ -12,7 +12,7 @@ ghost use Rattle.listing.specs.Failures.{IsInput, IsOutput};
 
 use framing::input::keep;
 use lines::line::put_header;
-use recording::{Answer, Progress, list};
+use recording::{Progress, list};
 use session::Session;
 use std::io;
 use std::io::{Read, Write};
@@ -75,10 +75,7 @@ fn write<W: Write>(writer: &mut W, bytes: &[u8]) -> Result<(), Failure>
     ensures written { OnOk result (Appends (W.contents writer.old) (W.contents writer.new) bytes.now) }
     ensures failed { IfErr result IsOutput }
 {
-    match writer.write_all(bytes) {
-        Ok(()) => Ok(()),
-        Err(e) => Err(Failure::Output(e)),
-    }
+    writer.write_all(bytes).map_err(Failure::Output)
 }
 
 // Lists all of the input. A proved loop has to end, and nothing says that the input does: so the loop counts its turns, up to a
@@ -148,14 +145,14 @@ fn turn<R: Read, W: Write>(
 }
 
 // Lists some bytes. The buffer that the program lends is larger than the listing asks for; a smaller one would end it.
+#[tactic(auto, unfolding(recording::specs::Listing::Answered))]
 fn list_bytes(session: Session, s: &[u8], last: bool, out: &mut [u8]) -> Progress
     ensures within { (result.taken ≤ length s.now) × (result.written ≤ length out.new) }
     ensures listed { frame_room ≤ length out.old → Listed session s.now last out.old result out.new }
 {
-    let answer = list(session, s, last, out);
-    match answer {
-        Answer::Listed(progress) => progress,
-        Answer::Refused(_) => Progress {
+    match list(session, s, last, out) {
+        Ok(progress) => progress,
+        Err(_) => Progress {
             session,
             taken: 0,
             written: 0,

@@ -5,7 +5,7 @@ ghost use Rattle.std.specs.Prelude.{◌≡◌};
 ghost use Rattle.location.specs.Flt.{is_flt, foreign, flt_of};
 
 // The country and the number of the location table, and the location's code in it.
-#[derive(Clone, Copy)]
+#[derive(Clone, Copy, Debug, Default, PartialEq, Eq)]
 pub struct Location {
     pub country: u8,
     pub ltn: u8,
@@ -22,6 +22,7 @@ impl Location {
     pub const TABLES: u8 = 64;
 
     // Whether a code is an FLT code.
+    #[tactic(auto, using(crate::proofs::Codes::flt_from))]
     pub fn is_flt(code: u16) -> bool
         ensures { result ≡ is_flt code }
     {
@@ -29,6 +30,7 @@ impl Location {
     }
 
     // The location with a code in the table that an FLT code stands for.
+    #[tactic(auto, using(crate::proofs::Codes::country_is, crate::proofs::Codes::ltn_is), unfolding(crate::specs::Flt::foreign))]
     pub fn foreign(flt: u16, code: u16) -> Self
         ensures { result ≡ foreign flt code }
     {
@@ -40,6 +42,7 @@ impl Location {
     }
 
     // The FLT code of its table.
+    #[tactic(auto, using(crate::proofs::Codes::code_is))]
     pub fn flt(self) -> u16
         ensures { result ≡ flt_of self }
     {

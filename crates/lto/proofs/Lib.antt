@@ -1,3 +1,3 @@
-pub mod Signed
+pub mod Ranges
 pub mod WayBack
 pub mod Examples

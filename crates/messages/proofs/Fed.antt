@@ -1,9 +1,8 @@
 -- Whole messages: what the writer's test says of the words, one by one and as calls of a fresh assembler.
 use Prim.Native.Nat.{ℕ, zero, suc, ◌^◌, ◌<◌}
-use native.Mathlib.Omega.{arith}
 use mathlib.Core.Path.{◌≡◌, refl, sym, ap, ap₂, ◌∙◌}
 use mathlib.Core.Logic.{◌↔◌}
-use mathlib.Core.Bool.{Bool, true, false, ◌&&◌, ◌||◌, not, or-true, or-false}
+use mathlib.Core.Bool.{Bool, true, false, ◌&&◌, ◌||◌, not, or-true, or-false, false≢true}
 use mathlib.Core.List.{List, [], ◌∷◌, ◌++◌}
 use lib.ListN.{get_or}
 use lib.Dec.{ltb, lit<}
@@ -11,46 +10,26 @@ use borrow.Author.Tests.{ltb-true, ltb-false}
 use Rattle.bits.proofs.Choice.{and_left, and_right}
 use Rattle.word.specs.Kind.{kind_of}
 use Rattle.transmission.specs.Demand3.{All}
-use Rattle.report.specs.declared.Refusal.{Refusal}
-use Rattle.report.specs.declared.Refusal.TheVariants.{Plain}
+use Rattle.std.specs.Prelude.{is_ok, IsOk}
 use Rattle.assembler.specs.declared.Assembler.{Assembler}
 use Rattle.assembler.specs.declared.Assembler.TheVariants.{Empty, Started}
-use Rattle.assembler.specs.declared.Answer.{Answer}
-use Rattle.assembler.specs.declared.Answer.TheVariants as answer
 use Rattle.assembler.specs.declared.Step.{Step}
 use Rattle.assembler.specs.Reading.{Reads}
 use Rattle.assembler.specs.Step.{step_of}
 use Rattle.assembler.specs.Calls.{calls, after}
 use Rattle.assembler.proofs.Refusals.{no_word-refused}
-use Rattle.assembler.specs.Advance.{is_taken}
 use Rattle.messages.specs.Messages.{is_empty, begins, passes, whole_from, whole}
 use Rattle.messages.specs.Whole.{Whole}
 
--- a call that was not refused, and a state with no open message
+-- a call that was not refused
 abbrev Taken : Step → Type 0
-Taken s = (r : Refusal) → s.answer ≡ answer.Refused r → ⊥
+Taken s = IsOk s.answer
 
-no_refusal : (x : Answer) → is_taken x ≡ true → (r : Refusal) → x ≡ answer.Refused r → ⊥
-unfolding is_taken
-no_refusal x t n e =
-    let k : true ≡ false = sym t ∙ ap is_taken e in
-    let z : ◌≡◌ {A = ℕ} 0 1 = cc in
-    omega arith
-
-taken_true : (x : Answer) → ((r : Refusal) → x ≡ answer.Refused r → ⊥) → is_taken x ≡ true
-unfolding is_taken
-taken_true answer.Nothing h = refl
-taken_true answer.Report h = refl
-taken_true (answer.Tuning n) h = refl
-taken_true (answer.Administration n) h = refl
-taken_true (answer.Refused r) h = absurd (h r refl)
-
+-- a state with no open message
 empty_state : (a : Assembler) → is_empty a ≡ true → a ≡ Empty
 unfolding is_empty
 empty_state Empty e = refl
-empty_state (Started p) e =
-    let z : ◌≡◌ {A = ℕ} 0 1 = cc in
-    absurd (omega arith)
+empty_state (Started p) e = absurd (cc)
 
 module _ (read : Reads) where
   -- the parts of the test of one word
@@ -65,13 +44,13 @@ module _ (read : Reads) where
 
     not-refused : Taken (step_of read a n)
     unfolding passes
-    not-refused = no_refusal (step_of read a n).answer (and_right (is_empty a || not (begins (kind_of n))) (is_taken (step_of read a n).answer) here)
+    not-refused = and_right (is_empty a || not (begins (kind_of n))) (is_ok (step_of read a n).answer) here
 
     -- a message begins in the empty state alone
     begun : begins (kind_of n) ≡ true → a ≡ Empty
     unfolding passes
     begun b =
-        let none : is_empty a || not (begins (kind_of n)) ≡ true = and_left (is_empty a || not (begins (kind_of n))) (is_taken (step_of read a n).answer) here in
+        let none : is_empty a || not (begins (kind_of n)) ≡ true = and_left (is_empty a || not (begins (kind_of n))) (is_ok (step_of read a n).answer) here in
         empty_state a (sym (or-false (is_empty a)) ∙ sym (ap (λ (t : Bool). is_empty a || not t) b) ∙ none)
 
   -- numbers of 2^37 or more are refused
@@ -82,7 +61,9 @@ module _ (read : Reads) where
     where
       below : (t : Bool) → ltb n (2 ^ 37) ≡ t → n < 2 ^ 37
       below true e = ltb-true n (2 ^ 37) e
-      below false e = absurd (not-refused a n ns w (Plain 9) (ap (λ (s : Step). s.answer) (no_word-refused read a n (ltb-false n (2 ^ 37) e))))
+      below false e =
+          let refused : is_ok (step_of read a n).answer ≡ false = ap (λ (s : Step). is_ok s.answer) (no_word-refused read a n (ltb-false n (2 ^ 37) e)) in
+          absurd (false≢true (sym refused ∙ not-refused a n ns w))
 
   -- calls from a state on
   all-taken : (ws : List ℕ) (a : Assembler) → whole_from read a ws ≡ true → All Taken (calls read a ws)
@@ -107,7 +88,7 @@ module _ (read : Reads) where
   all_whole [] a t k e = ap is_empty e
   all_whole (n ∷ ns) a t k e =
       ap₂ (λ (x y : Bool). x && y)
-      (ap₂ (λ (x y : Bool). x && y) (starts (begins (kind_of n)) refl) (taken_true (step_of read a n).answer t.0))
+      (ap₂ (λ (x y : Bool). x && y) (starts (begins (kind_of n)) refl) t.0)
       (all_whole ns (step_of read a n).next t.1 (λ before m rest s b. k (n ∷ before) m rest (ap (λ (l : List ℕ). n ∷ l) s) b) e)
     where
       starts : (t : Bool) → begins (kind_of n) ≡ t → is_empty a || not t ≡ true

@@ -1,4 +1,4 @@
 pub mod Feeding
-pub mod Fed
 pub mod Continuing
+pub mod Fed
 pub mod Formed

@@ -1,6 +1,6 @@
 -- User words that are whole messages (document 01, "DRM"): on them a fresh assembler refuses nothing, drops no open message and ends
 -- with none open. How content is read is left open. That `whole_from` says just this of its calls is `whole_means` in proofs/Fed.antt.
-use Rattle.std.specs.Prelude.{ℕ, Bool, true, false, ◌&&◌, ◌||◌, not, List, [], ◌∷◌}
+use Rattle.std.specs.Prelude.{ℕ, Bool, true, false, ◌&&◌, ◌||◌, not, List, [], ◌∷◌, is_ok}
 use Rattle.word.specs.declared.Word.{Word}
 use Rattle.word.specs.declared.Word.TheVariants.{Single, First, Later, Tuning, Administration, Index7, Beyond}
 use Rattle.word.specs.Kind.{kind_of}
@@ -8,7 +8,6 @@ use Rattle.assembler.specs.declared.Assembler.{Assembler}
 use Rattle.assembler.specs.declared.Assembler.TheVariants.{Empty, Started}
 use Rattle.assembler.specs.Reading.{Reads}
 use Rattle.assembler.specs.Step.{step_of}
-use Rattle.assembler.specs.Advance.{is_taken}
 
 -- no message is open
 unfoldable pub is_empty : Assembler → Bool
@@ -29,7 +28,7 @@ begins (Beyond n) = false
 module _ (read : Reads) where
   -- a word that drops no open message and is not refused
   unfoldable pub passes : Assembler → ℕ → Bool
-  passes a n = (is_empty a || not (begins (kind_of n))) && is_taken (step_of read a n).answer
+  passes a n = (is_empty a || not (begins (kind_of n))) && is_ok (step_of read a n).answer
 
   -- words from a state on
   unfoldable pub whole_from : Assembler → List ℕ → Bool

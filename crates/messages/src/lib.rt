@@ -13,40 +13,29 @@ pub fn are_whole(words: &[u64]) -> bool
     ensures { result ≡ whole read_report words.now }
 {
     let mut state = Assembler::new();
-    let mut i = 0;
-    while i < words.len() {
-        let word = words[i];
-        let advance = state.advance(word);
-        if !((is_empty(state) | !begins(Word::parse(word))) & advance.taken) {
+    for word in words {
+        let advance = state.advance(*word);
+        let drops = begins(Word::parse(*word)) & !is_empty(state);
+        if drops | !advance.taken {
             return false;
         }
         state = advance.next;
-        i += 1;
     }
     is_empty(state)
 }
 
 // Whether no message is open.
+#[tactic(auto, unfolding(crate::specs::Messages::is_empty))]
 fn is_empty(state: Assembler) -> bool
     ensures { result ≡ is_empty state }
 {
-    match state {
-        Assembler::Empty => true,
-        Assembler::Started(_) => false,
-    }
+    matches!(state, Assembler::Empty)
 }
 
 // Whether a word begins a message, so that one that is open is dropped.
+#[tactic(auto, unfolding(crate::specs::Messages::begins))]
 fn begins(word: Word) -> bool
     ensures { result ≡ begins word }
 {
-    match word {
-        Word::Single {
-            duration: _,
-            diversion: _,
-            head: _,
-        } => true,
-        Word::First { ci: _, head: _ } => true,
-        _ => false,
-    }
+    matches!(word, Word::Single { .. } | Word::First { .. })
 }

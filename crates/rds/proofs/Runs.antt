@@ -9,12 +9,13 @@ use lib.Pow.{pow_mono}
 use lib.Dec.{eqb, ltb}
 use borrow.Author.Tests.{eqb-true, eq-eqb, le-leb, lt-ltb}
 use native.Mathlib.Omega.{arith}
+use Rattle.std.specs.Prelude.{Result, Ok, Err}
+use Rattle.refusal.specs.declared.Refusal.{Refusal}
 use Rattle.bits.specs.Bits.{val}
 use Rattle.bits.specs.Fields.{flat, unpack}
 use Rattle.bits.proofs.Choice.{chosen, passed_over}
 use Rattle.bits.proofs.Value.{val_lt}
-use Rattle.rds.specs.declared.Reading.{Reading}
-use Rattle.rds.specs.declared.Reading.TheVariants.{Taken, Refused}
+use Rattle.refusal.proofs.Checks.{passed}
 use Rattle.rds.specs.declared.Group.{Group}
 use Rattle.rds.specs.declared.Step.{Step}
 use Rattle.rds.specs.declared.Run.{Run}
@@ -44,26 +45,13 @@ either true w h = h
 either false w h = h
 
 -- the word of a group that reads has 37 bits
-read_small : (s : List ℕ) (g : Group) → read_group s ≡ Taken g → ltb g.word word_limit ≡ true
+read_small : (s : List ℕ) (g : Group) → read_group s ≡ Ok g → ltb g.word word_limit ≡ true
 unfolding read_group group_by
-read_small s g e = by_tests (eqb (length s) group_length) (eqb (type_in fields) 8 && eqb (version_in fields) 0) refl refl
-  where
-    fields : List ℕ
-    fields = unpack group_format (flat 8 s)
-
-    by_tests : (t u : Bool) → eqb (length s) group_length ≡ t → eqb (type_in fields) 8 && eqb (version_in fields) 0 ≡ u → ltb g.word word_limit ≡ true
-    by_tests true true f r =
-        let k : Taken (group_of fields) ≡ Taken g = sym (chosen _ _ _ f ∙ chosen _ _ _ r) ∙ e in
-        let same : word_in fields ≡ g.word = cc in
-        lt-ltb g.word word_limit (subst (λ (n : ℕ). n < word_limit) same (word_lt (flat 8 s)))
-    by_tests true false f r =
-        let k : Refused 2 ≡ Taken g = sym (chosen _ _ _ f ∙ passed_over _ _ _ r) ∙ e in
-        let z : ◌≡◌ {A = ℕ} 0 1 = cc in
-        absurd (omega arith)
-    by_tests false u f r =
-        let k : Refused 1 ≡ Taken g = sym (passed_over _ _ _ f) ∙ e in
-        let z : ◌≡◌ {A = ℕ} 0 1 = cc in
-        absurd (omega arith)
+read_small s g e =
+    let fields = unpack group_format (flat 8 s) in
+    let whole = passed (eqb (length s) group_length) _ _ g e in
+    let same : group_of fields ≡ g = cc (passed (eqb (type_in fields) 8 && eqb (version_in fields) 0) _ _ g whole.1).1 in
+    lt-ltb g.word word_limit (subst (λ (x : Group). x.word < word_limit) same (word_lt (flat 8 s)))
 
 next_fits : (r : Run) (w : ℕ) → ltb w word_limit ≡ true → run_fits (next_run r w) ≡ true
 unfolding run_fits next_run
@@ -72,12 +60,12 @@ next_fits (One v) w h = either (eqb v w) w h
 next_fits (More v) w h = either (eqb v w) w h
 
 -- a group received, by what it reads as
-by_reading : (r : Run) (x : Reading) (ws : List ℕ) (rest : Run → List ℕ) → run_fits r ≡ true → ((g : Group) → x ≡ Taken g → ltb g.word word_limit ≡ true)
+by_reading : (r : Run) (x : Result Group Refusal) (ws : List ℕ) (rest : Run → List ℕ) → run_fits r ≡ true → ((g : Group) → x ≡ Ok g → ltb g.word word_limit ≡ true)
     → ((q : Run) → run_fits q ≡ true → rest q ≡ heard_from q ws)
     → valid_then (after_reading r x).answer (rest (after_reading r x).run) ≡ heard_from r (word_then x ws)
 unfolding heard_from after_reading
-by_reading r (Taken g) ws rest f small h = ap (valid_then (answer_to r g.word)) (h (next_run r g.word) (next_fits r g.word (small g refl)))
-by_reading r (Refused n) ws rest f small h = h r f
+by_reading r (Ok g) ws rest f small h = ap (valid_then (answer_to r g.word)) (h (next_run r g.word) (next_fits r g.word (small g refl)))
+by_reading r (Err refusal) ws rest f small h = h r f
 
 of-groups : (groups : List (List ℕ)) (r : Run) → run_fits r ≡ true → valid_words (answers r groups) ≡ heard_from r (words8_a groups)
 unfolding valid_words answers words8_a heard_from received

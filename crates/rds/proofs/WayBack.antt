@@ -1,25 +1,23 @@
 -- The way back: the cells that `write` filled read back, and received twice running they give their word, once.
 use Prim.Native.Nat.{ℕ, zero, suc}
-use native.Mathlib.Omega.{arith}
-use mathlib.Core.Path.{◌≡◌, refl, sym, ap, ◌∙◌}
-use mathlib.Core.Bool.{Bool, true, false, ◌&&◌}
+use mathlib.Core.Path.{◌≡◌, refl, ap, ◌∙◌}
+use mathlib.Core.Bool.{Bool, true, ◌&&◌}
 use mathlib.Core.List.{List, ◌∷◌, ◌++◌}
 use lib.ListN.{length, take, drop, replicate}
 use lib.Seq.{take_at}
 use lib.Dec.{leb, ltb}
 use borrow.Author.Tests.{eq-eqb}
+use Rattle.std.specs.Prelude.{Result, Ok, Option, Some, None}
+use Rattle.refusal.specs.declared.Refusal.{Refusal}
+use Rattle.refusal.proofs.Checks.{passed}
 use Rattle.bits.specs.Fields.{words, unpack, pack, fits}
-use Rattle.bits.proofs.Choice.{and_left, and_right, chosen, passed_over}
+use Rattle.bits.proofs.Choice.{and_left, and_right, chosen}
 use Rattle.bits.proofs.Fields.{length-words, flat-words}
 use Rattle.bits.proofs.Formats.{length-pack, unpack-pack}
 use Rattle.rds.specs.declared.Group.{Group}
-use Rattle.rds.specs.declared.Reading.TheVariants.{Taken}
-use Rattle.rds.specs.declared.Writing.TheVariants.{Done, Refused}
 use Rattle.rds.specs.declared.Run.{Run}
 use Rattle.rds.specs.declared.Run.TheVariants.{Empty, One, More}
-use Rattle.rds.specs.declared.Answer.{Answer}
 use Rattle.rds.specs.declared.Step.{Step}
-use Rattle.rds.specs.declared.Answer.TheVariants.{Nothing, Valid}
 use Rattle.rds.specs.Format.{group_length, group_format, group_values, word_limit}
 use Rattle.rds.specs.Read.{group_by, read_group}
 use Rattle.rds.specs.Write.{write_group, group_bytes, buffer_after}
@@ -33,7 +31,7 @@ length-bytes g = length-words 8 group_length (pack group_format (group_values g)
 
 module _ (g : Group) (fit : fits group_format (group_values g) ≡ true) where
   -- PI, TP, PTY and the word read back
-  pub write_read : read_group (group_bytes g) ≡ Taken g
+  pub write_read : read_group (group_bytes g) ≡ Ok g
   unfolding read_group group_by group_bytes
   write_read =
       let l = pack group_format (group_values g) in
@@ -70,42 +68,33 @@ module _ (g : Group) (fit : fits group_format (group_values g) ≡ true) where
   unfolding answers
   one_more r t rest e = ap (λ (x : Step). x.answer ∷ answers x.run rest) e
 
-  more_copies : (n : ℕ) → answers (More g.word) (replicate n (group_bytes g)) ≡ replicate n Nothing
+  more_copies : (n : ℕ) → answers (More g.word) (replicate n (group_bytes g)) ≡ replicate n (Ok None)
   unfolding answers
   more_copies zero = refl
   more_copies (suc n) =
       one_more (More g.word) _ (replicate n (group_bytes g)) (receive-written (More g.word) more-fits ∙ heard-later g.word g.word refl)
-      ∙ ap (λ (l : List Answer). Nothing ∷ l) (more_copies n)
+      ∙ ap (λ (l : List (Result (Option ℕ) Refusal)). Ok None ∷ l) (more_copies n)
 
   -- exactly one valid word, at the second copy, whatever the number of copies after it
-  copies_back : (r : Run) → run_fits r ≡ true → (Last r g.word → ⊥) → (n : ℕ) → answers r (replicate (suc (suc n)) (group_bytes g)) ≡ Nothing ∷ Valid g.word ∷ replicate n Nothing
+  copies_back : (r : Run) → run_fits r ≡ true → (Last r g.word → ⊥) → (n : ℕ) → answers r (replicate (suc (suc n)) (group_bytes g)) ≡ Ok None ∷ Ok (Some g.word) ∷ replicate n (Ok None)
   copies_back r f h n =
       let copies = replicate n (group_bytes g) in
       one_more r (begun g.word) (group_bytes g ∷ copies) (first_copy r f h)
-      ∙ ap (λ (l : List Answer). Nothing ∷ l)
-      (one_more (One g.word) _ copies (receive-written (One g.word) one_fits ∙ heard-second g.word g.word refl) ∙ ap (λ (l : List Answer). Valid g.word ∷ l) (more_copies n))
+      ∙ ap (λ (l : List (Result (Option ℕ) Refusal)). Ok None ∷ l)
+      (one_more (One g.word) _ copies (receive-written (One g.word) one_fits ∙ heard-second g.word g.word refl) ∙ ap (λ (l : List (Result (Option ℕ) Refusal)). Ok (Some g.word) ∷ l) (more_copies n))
 
 -- what is written is in range, and there was room
-written-fits : (g : Group) (room : ℕ) → write_group g room ≡ Done → (fits group_format (group_values g) ≡ true) × (leb group_length room ≡ true)
+written-fits : (g : Group) (room : ℕ) → write_group g room ≡ Ok tt → (fits group_format (group_values g) ≡ true) × (leb group_length room ≡ true)
 unfolding write_group
-written-fits g room e = by_tests (fits group_format (group_values g)) (leb group_length room) refl refl
-  where
-    by_tests : (t u : Bool) → fits group_format (group_values g) ≡ t → leb group_length room ≡ u → (fits group_format (group_values g) ≡ true) × (leb group_length room ≡ true)
-    by_tests true true f r = (f, r)
-    by_tests true false f r =
-        let k : Refused 15 ≡ Done = sym (chosen _ _ _ f ∙ passed_over _ _ _ r) ∙ e in
-        let z : ◌≡◌ {A = ℕ} 0 1 = cc in
-        absurd (omega arith)
-    by_tests false u f r =
-        let k : Refused 9 ≡ Done = sym (passed_over _ _ _ f) ∙ e in
-        let z : ◌≡◌ {A = ℕ} 0 1 = cc in
-        absurd (omega arith)
+written-fits g room e =
+    let fit = passed (fits group_format (group_values g)) _ _ tt e in
+    (fit.0, (passed (leb group_length room) _ _ tt fit.1).0)
 
 -- the first eight cells of a buffer into which a group was written read back as the group; received twice or more, where the run before is
 -- one that groups give and its word is another, they give its word, once, at the second copy
-pub way_back : (g : Group) (out : List ℕ) → write_group g (length out) ≡ Done
+pub way_back : (g : Group) (out : List ℕ) → write_group g (length out) ≡ Ok tt
     → let s = take group_length (buffer_after g out) in
-    (read_group s ≡ Taken g) × ((r : Run) → run_fits r ≡ true → (Last r g.word → ⊥) → (n : ℕ) → answers r (replicate (suc (suc n)) s) ≡ Nothing ∷ Valid g.word ∷ replicate n Nothing)
+    (read_group s ≡ Ok g) × ((r : Run) → run_fits r ≡ true → (Last r g.word → ⊥) → (n : ℕ) → answers r (replicate (suc (suc n)) s) ≡ Ok None ∷ Ok (Some g.word) ∷ replicate n (Ok None))
 unfolding buffer_after
 way_back g out e =
     let w = written-fits g (length out) e in

@@ -6,8 +6,9 @@ ghost use Rattle.rds.specs.Format.{group_format, group_values, empty_group};
 ghost use Rattle.rds.specs.Read.{read_group};
 ghost use Rattle.rds.specs.Write.{write_group, buffer_after};
 
-use crate::{Group, Reading, Writing};
+use crate::Group;
 use bits::bytes::{load, store};
+use refusal::Refusal;
 
 // What one of a field counts in the 64 bits of a group, by the bits after it. PTY, which the word follows, counts Group::WORD_LIMIT.
 const PI_WEIGHT: u64 = 0x1_0000_0000_0000;
@@ -43,53 +44,53 @@ impl Group {
     }
 
     // Reads a group. Another length is refused (1), then another type or version (2).
-    pub fn read(s: &[u8]) -> Reading
+    #[tactic(auto, using(crate::proofs::Blocks::by_division))]
+    pub fn read(s: &[u8]) -> Result<Group, Refusal>
         ensures { result ≡ read_group s.now }
     {
         if s.len() != Group::LENGTH {
-            return Reading::Refused(1);
+            return Err(Refusal::WrongLength);
         }
         let n = load(s);
-        if (n / TYPE_WEIGHT % 16 == Group::TYPE) & (n / VERSION_WEIGHT % 2 == 0) {
-            Reading::Taken(Group {
-                pi: (n / PI_WEIGHT % 0x1_0000) as u16,
-                tp: (n / TP_WEIGHT % 2) as u8,
-                pty: (n / Group::WORD_LIMIT % 32) as u8,
-                word: n % Group::WORD_LIMIT,
-            })
-        } else {
-            Reading::Refused(2)
+        if n / TYPE_WEIGHT % 16 != Group::TYPE || n / VERSION_WEIGHT % 2 != 0 {
+            return Err(Refusal::OtherKind);
         }
+        Ok(Group {
+            pi: (n / PI_WEIGHT % 0x1_0000) as u16,
+            tp: (n / TP_WEIGHT % 2) as u8,
+            pty: (n / Group::WORD_LIMIT % 32) as u8,
+            word: n % Group::WORD_LIMIT,
+        })
     }
 
     // Writes a group into the first cells of a buffer. A field or word out of its range is refused (9), then too small a
     // buffer (15); a refusal leaves the buffer as it is.
-    pub fn write(self, out: &mut [u8]) -> Writing
+    #[tactic(auto, unfolding(crate::specs::Write::write_group, crate::specs::Write::buffer_after))]
+    pub fn write(self, out: &mut [u8]) -> Result<(), Refusal>
         ensures value { result ≡ write_group self (length out.old) }
         ensures out_after { out.new ≡ buffer_after self out.old }
     {
-        if group_fits(self) {
-            if Group::LENGTH <= out.len() {
-                let end = Group::LENGTH;
-                store(&mut out[..end], group_number(self));
-                Writing::Done
-            } else {
-                Writing::Refused(15)
-            }
-        } else {
-            Writing::Refused(9)
+        if !group_fits(self) {
+            return Err(Refusal::Unfit);
         }
+        if out.len() < Group::LENGTH {
+            return Err(Refusal::SmallBuffer);
+        }
+        store(&mut out[..Group::LENGTH], group_number(self));
+        Ok(())
     }
 }
 
 // Whether the fields and the word are in their ranges.
+#[tactic(auto, unfolding(bits::specs::Fields::fits))]
 fn group_fits(g: Group) -> bool
     ensures { result ≡ fits group_format (group_values g) }
 {
-    (g.tp < 2) & (g.pty < Group::PROGRAMME_TYPES) & (g.word < Group::WORD_LIMIT)
+    g.tp < 2 && g.pty < Group::PROGRAMME_TYPES && g.word < Group::WORD_LIMIT
 }
 
 // The 64 bits of a group as a number.
+#[tactic(auto, using(crate::proofs::Blocks::sum_is, crate::proofs::Blocks::sum_lt))]
 fn group_number(g: Group) -> u64
     requires { fits group_format (group_values g) ≡ true }
     ensures { result ≡ val (pack group_format (group_values g)) }

@@ -1,12 +1,14 @@
 // The RDS type 8A group, read and written, and the repeat rule over the groups received.
 #![tactic(auto)]
 
+use refusal::Refusal;
+
 mod format;
 mod repeat;
 
 // What a type 8A group carries besides its type.
 #[repr(C)]
-#[derive(Clone, Copy)]
+#[derive(Clone, Copy, Debug, Default, PartialEq, Eq)]
 pub struct Group {
     pub pi: u16,
     pub tp: u8,
@@ -14,20 +16,8 @@ pub struct Group {
     pub word: u64,
 }
 
-#[derive(Clone, Copy)]
-pub enum Reading {
-    Taken(Group),
-    Refused(u8),
-}
-
-#[derive(Clone, Copy)]
-pub enum Writing {
-    Done,
-    Refused(u8),
-}
-
 // The run of equal words among the 8A groups received last.
-#[derive(Clone, Copy)]
+#[derive(Clone, Copy, Debug, PartialEq, Eq)]
 pub enum Run {
     // No 8A group yet.
     Empty,
@@ -37,17 +27,9 @@ pub enum Run {
     More(u64),
 }
 
-// What a group received says.
-#[derive(Clone, Copy)]
-pub enum Answer {
-    Nothing,
-    Valid(u64),
-    Refused(u8),
-}
-
-// The run after a group, and what the group said.
-#[derive(Clone, Copy)]
+// The run after a group, and what the group gave: a valid word, or none yet.
+#[derive(Clone, Copy, Debug, PartialEq, Eq)]
 pub struct Step {
     pub run: Run,
-    pub answer: Answer,
+    pub answer: Result<Option<u64>, Refusal>,
 }

@@ -1,16 +1,25 @@
 -- The set of a record: stored, and read back.
-use Prim.Native.Nat.{ℕ, ◌+◌, ◌/◌, ◌%◌, ◌^◌, ◌≤◌, ◌<◌}
+use Prim.Native.Nat.{ℕ, ◌+◌, ◌-◌, ◌/◌, ◌%◌, ◌^◌, ◌≤◌, ◌<◌}
 use native.Mathlib.Omega.{arith}
-use mathlib.Core.Path.{◌≡◌, refl, sym, ap, ◌∙◌}
+use mathlib.Core.Path.{◌≡◌, refl, sym, ap, ap₂, ◌∙◌}
 use mathlib.Core.Bool.{true}
 use mathlib.Core.List.{List, [], ◌∷◌, ◌++◌, append-nil}
-use lib.ListN.{length, take, get_or, replicate, length-append, drop_of_length-le}
-use lib.Seq.{sets, sets-eq, length-take-le, get_or-append-add}
+use lib.ListN.{length, take, drop, get_or, replicate, length-append, length-drop, drop_of_length-le}
+use lib.Seq.{length-take-le, get_or-append-add}
+use borrow.Rule.Slice.PartMut.{put_mid}
 use borrow.Author.Tests.{eq-eqb, ne_eqb}
+use Rattle.std.specs.Int.{w64, to_le_bytes}
 use Rattle.bits.proofs.Choice.{chosen, passed_over}
 use Rattle.record.specs.Layout.{record_size, four_at, four_bytes, eight_bytes, set_at, set_in, with_set}
 use Rattle.record.specs.WellFormed.{within}
 use Rattle.record.proofs.Ranges.{within-next}
+
+-- the eight bytes of a number, as the library has them
+cons : {a b : ℕ} {x y : List ℕ} → a ≡ b → x ≡ y → a ∷ x ≡ b ∷ y
+cons e f = ap₂ (λ (n : ℕ) (l : List ℕ). n ∷ l) e f
+
+eight_le : (n : ℕ) → n < 2 ^ 64 → to_le_bytes w64 n ≡ eight_bytes n
+eight_le n small = cons (omega arith) (cons (omega arith) (cons (omega arith) (cons (omega arith) (cons (omega arith) (cons (omega arith) (cons (omega arith) (cons (omega arith) refl)))))))
 
 module _ (set : ℕ) (r : List ℕ) where
   pub set-put : length r ≡ record_size → with_set set r ≡ take set_at r ++ eight_bytes set
@@ -21,14 +30,12 @@ module _ (set : ℕ) (r : List ℕ) where
   unfolding with_set
   set_left other = passed_over _ _ _ (ne_eqb (length r) record_size other)
 
-  -- its bytes stored one by one
-  pub bytes-put : length r ≡ record_size → sets (sets r set_at (four_bytes (set % 0x1_0000_0000))) (set_at + 4) (four_bytes (set / 0x1_0000_0000)) ≡ with_set set r
-  bytes-put long =
-      let room : set_at + length (eight_bytes set) ≤ length r = omega arith in
-      let all : length r ≤ set_at + length (eight_bytes set) = omega arith in
-      sets-eq (eight_bytes set) r set_at room
-      ∙ ap (λ (l : List ℕ). (take set_at r ++ eight_bytes set) ++ l) (drop_of_length-le r all)
-      ∙ append-nil (take set_at r ++ eight_bytes set)
+  -- its bytes stored at the end
+  pub bytes-put : (l : List ℕ) → l ≡ to_le_bytes w64 set → set < 2 ^ 64 → length r ≡ record_size → put_mid set_at (length r - set_at) r l ≡ with_set set r
+  bytes-put l e small long =
+      let none : length (drop set_at r) ≤ length r - set_at = omega (arith, length-drop set_at r) in
+      ap₂ (λ (b d : List ℕ). take set_at r ++ (b ++ d)) (e ∙ eight_le set small) (drop_of_length-le (drop set_at r) none)
+      ∙ ap (λ (b : List ℕ). take set_at r ++ b) (append-nil (eight_bytes set))
       ∙ sym (set-put long)
 
   pub length-put : length r ≡ record_size → length (with_set set r) ≡ record_size

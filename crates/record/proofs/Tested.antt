@@ -10,7 +10,7 @@ use lib.Dec.{leb, ltb, eqb}
 use lib.Bits.{bit_and}
 use borrow.Author.Tests.{leb-true, leb-false, ltb-true, ltb-false, eqb-true, eqb-false, le-ltb, eq-eqb, ne_eqb}
 use Rattle.bits.specs.Bits.{all_zero}
-use Rattle.bits.proofs.Choice.{and_left, and_right, chosen, passed_over}
+use Rattle.bits.proofs.Choice.{and_left, and_right}
 use Rattle.content.specs.Packing.{group_bits}
 use Rattle.report.specs.Record.{content_bytes}
 use Rattle.record.specs.Layout.{record_size, is_record, byte_at, groups_in, content_at, content_in}
@@ -137,11 +137,7 @@ module _ (r : List ℕ) (long : length r ≡ record_size) (bytes : Bytes r) wher
 
 -- the test of eight bytes
 pub from_le : (j : ℕ) → eight_from j + 8 ≤ record_size
-from_le j = by_test (leb j (record_size - 8)) refl
-  where
-    by_test : (b : Bool) → leb j (record_size - 8) ≡ b → cond b j (record_size - 8) + 8 ≤ record_size
-    by_test true e = omega (arith, leb-true j (record_size - 8) e)
-    by_test false e = omega arith
+from_le j = omega arith
 
 pub row_le : (r : List ℕ) → row_of r ≤ 5
 unfolding row_of complete
@@ -185,8 +181,8 @@ eight_passed r j bytes before eight k h inside = by_test (ltb k j) refl
         subst (λ (n : ℕ). byte_zero r n ≡ true) s (all_below_at (λ n. byte_zero r (eight_from j + n)) 8 (k - i) (sym (bytes-zero r j bytes) ∙ eight) (omega arith))
 
     by_end : (b : Bool) → leb j (record_size - 8) ≡ b → j ≤ k → byte_zero r k ≡ true
-    by_end true e low = here j (sym (chosen _ _ _ e)) low h
-    by_end false e low = here (record_size - 8) (sym (passed_over _ _ _ e)) (omega (arith, leb-false j (record_size - 8) e)) (omega arith)
+    by_end true e low = here j (omega (arith, leb-true j (record_size - 8) e)) low h
+    by_end false e low = here (record_size - 8) (omega (arith, leb-false j (record_size - 8) e)) (omega (arith, leb-false j (record_size - 8) e)) (omega arith)
 
     by_test : (b : Bool) → ltb k j ≡ b → byte_zero r k ≡ true
     by_test true e = before k (ltb-true k j e) inside
@@ -204,3 +200,15 @@ module _ (r : List ℕ) (long : length r ≡ record_size) (bytes : Bytes r) wher
       by_test true f =
           let all = sym (tested r long bytes) ∙ f in
           f ∙ sym (bytes-zero r j bytes ∙ all_below_true (λ k. byte_zero r (eight_from j + k)) 8 (λ k h. all_below_at (byte_zero r) record_size (eight_from j + k) all (omega (arith, from_le j)))) ∙ e
+
+-- that test as it is called, with the rows of zero bits
+module _ (r zs : List ℕ) (j : ℕ) (bytes : Bytes r) (rows : zs ≡ zero_bits) where
+  pub eight_fit : is_record r && bytes_zero zs r j ≡ true → (length r ≡ record_size) × (bytes_zero zero_bits r j ≡ true)
+  eight_fit h = (eqb-true (length r) record_size (and_left (is_record r) (bytes_zero zs r j) h), sym (ap (λ (ms : List ℕ). bytes_zero ms r j) rows) ∙ and_right (is_record r) (bytes_zero zs r j) h)
+
+  pub eight_fails : is_record r && bytes_zero zs r j ≡ false → is_record r && well_formed r ≡ false
+  eight_fails = by_size (is_record r) refl
+    where
+      by_size : (b : Bool) → is_record r ≡ b → b && bytes_zero zs r j ≡ false → b && well_formed r ≡ false
+      by_size false e h = refl
+      by_size true e h = eight-unfit r (eqb-true (length r) record_size e) bytes j (sym (ap (λ (ms : List ℕ). bytes_zero ms r j) rows) ∙ h)

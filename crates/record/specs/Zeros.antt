@@ -1,6 +1,6 @@
 -- The bits that are zero in a well-formed record (documents 01, "The message table", and 02, R-5): those above the bits of each byte, and the content bits
 -- after those of the groups.
-use Rattle.std.specs.Prelude.{ℕ, zero, suc, ◌+◌, ◌-◌, ◌*◌, ◌^◌, Bool, cond, not, ◌&&◌, List, [], ◌∷◌, ◌++◌, map, take, drop, replicate, eqb, leb}
+use Rattle.std.specs.Prelude.{ℕ, zero, suc, ◌+◌, ◌-◌, ◌*◌, ◌^◌, Bool, cond, not, ◌&&◌, List, [], ◌∷◌, ◌++◌, map, take, drop, replicate, eqb, min}
 use Rattle.std.specs.Int.Bits.{bit_and}
 use Rattle.content.specs.Packing.{group_bits}
 use Rattle.report.specs.Record.{content_bytes}
@@ -30,7 +30,7 @@ row_of r = cond (not (is_free r) && complete r) (groups_in r) 0
 
 -- where eight bytes begin: at byte j, or at the last eight of a record
 abbrev pub eight_from : ℕ → ℕ
-eight_from j = cond (leb j (record_size - 8)) j (record_size - 8)
+eight_from j = min j (record_size - 8)
 
 -- these eight, as one number, have zeros where the record's row of the rows zs says
 unfoldable pub bytes_zero : (zs r : List ℕ) → ℕ → Bool

@@ -4,10 +4,9 @@ ghost use Rattle.record.specs.Classes.{meet, set_fits};
 ghost use Rattle.record.specs.Layout.{with_set};
 
 use crate::Record;
-use crate::fields::put_four;
 
 // Class c is bit c.
-#[derive(Clone, Copy)]
+#[derive(Clone, Copy, Debug, PartialEq, Eq)]
 pub struct Classes(pub u64);
 
 impl Classes {
@@ -39,7 +38,6 @@ impl Classes {
         if r.len() != Record::SIZE {
             return;
         }
-        put_four(r, Record::CLASSES, (self.0 % 0x1_0000_0000) as u32);
-        put_four(r, Record::CLASSES + 4, (self.0 / 0x1_0000_0000) as u32);
+        r[Record::CLASSES..].copy_from_slice(&self.0.to_le_bytes());
     }
 }

@@ -16,7 +16,7 @@ use location::Location;
 
 // A service: country, location table number and service identifier.
 #[repr(C)]
-#[derive(Clone, Copy)]
+#[derive(Clone, Copy, Debug, Default, PartialEq, Eq)]
 pub struct Service {
     pub country: u8,
     pub ltn: u8,
@@ -49,7 +49,7 @@ pub struct Key {
 }
 
 // How many records a call freed as expired and as matching.
-#[derive(Clone, Copy)]
+#[derive(Clone, Copy, Debug, Default, PartialEq, Eq)]
 pub struct Freed {
     pub expired: usize,
     pub matched: usize,

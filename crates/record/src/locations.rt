@@ -10,18 +10,17 @@ use report::inter_road::is_inter_road;
 impl Service {
     // The location of a report: if it is INTER-ROAD, its real location in the table that its FLT code stands for, else its location in
     // the service's own table.
+    #[tactic(auto, unfolding(crate::specs::Locations::location_of))]
     pub fn location_of(self, report: Report) -> Location
         ensures { result ≡ location_of self report }
     {
-        let head = report.head;
-        let form = report.form;
-        if is_inter_road(form, head) {
-            Location::foreign(head.location, report.real)
+        if is_inter_road(report.form, report.head) {
+            Location::foreign(report.head.location, report.real)
         } else {
             Location {
                 country: self.country,
                 ltn: self.ltn,
-                code: head.location,
+                code: report.head.location,
             }
         }
     }
@@ -34,6 +33,7 @@ impl Service {
     }
 
     // How a report gives a location. The location of its head: the code at home, else the FLT code of the table.
+    #[tactic(auto, unfolding(crate::specs::Locations::head_location))]
     pub fn head_location(self, l: Location) -> u16
         ensures { result ≡ head_location self l }
     {
@@ -41,6 +41,7 @@ impl Service {
     }
 
     // And its real location: none (0) at home, else the code.
+    #[tactic(auto, unfolding(crate::specs::Locations::real_location))]
     pub fn real_location(self, l: Location) -> u16
         ensures { result ≡ real_location self l }
     {

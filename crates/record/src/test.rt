@@ -2,7 +2,7 @@
 ghost use Rattle.std.specs.Prelude.{◌≡◌, ◌&&◌, length};
 ghost use Rattle.record.specs.Layout.{record_size, is_record};
 ghost use Rattle.record.specs.WellFormed.{well_formed};
-ghost use Rattle.record.specs.Zeros.{zero_bits, row_of, eight_from, bytes_zero};
+ghost use Rattle.record.specs.Zeros.{zero_bits, row_of, bytes_zero};
 
 use crate::Record;
 use crate::fields::{classes, eight, expiry};
@@ -19,6 +19,7 @@ impl Record {
 const LAST: usize = Record::SIZE - Record::STEP;
 
 // The bits that are zero in each byte: a row for free records, and one for each number of groups.
+#[tactic(auto, unfolding(crate::specs::WellFormed::widths, crate::specs::Zeros::spares, crate::specs::Zeros::above, crate::specs::Zeros::zeros_for, crate::specs::Zeros::zero_bits))]
 pub fn zero_bits() -> [u8; Record::ROWS * Record::SIZE]
     ensures { result ≡ zero_bits }
 {
@@ -34,50 +35,39 @@ pub fn zero_bits() -> [u8; Record::ROWS * Record::SIZE]
 pub fn fits(r: &[u8]) -> bool
     ensures { result ≡ is_record r.now && well_formed r.now }
 {
-    if r.len() != Record::SIZE {
-        return false;
-    }
     let zeros = zero_bits();
-    let mut j = 0;
-    while j < Record::SIZE {
+    for j in (0..Record::SIZE).step_by(Record::STEP) {
         if !bytes_fit(r, &zeros, j) {
             return false;
         }
-        j += Record::STEP;
     }
     true
 }
 
 // Whether the eight bytes from byte j on, or the last eight, have zeros where their record's row of `zeros` says. With `zero_bits` a record
 // is well-formed if all its bytes have. Bytes that are not one record's have not.
+#[tactic(auto, using(crate::proofs::Tested::row_le, crate::proofs::Tested::from_le), unfolding(crate::specs::Zeros::bytes_zero))]
 pub fn bytes_fit(r: &[u8], zeros: &[u8; Record::ROWS * Record::SIZE], j: usize) -> bool
     ensures { result ≡ is_record r.now && bytes_zero zeros.now r.now j }
 {
     if r.len() != Record::SIZE {
         return false;
     }
-    let at = eight_from(j);
+    let at = j.min(LAST);
     let row = row_of(r) * Record::SIZE;
     eight(r, at) & eight(zeros, row + at) == 0
 }
 
-fn eight_from(j: usize) -> usize
-    ensures { result ≡ eight_from j }
-{
-    if j <= LAST { j } else { LAST }
-}
-
 // The row of a record: its groups; 0 if it is free, and if its groups are not one to five or it has no expiry or no set of classes.
+#[tactic(auto, using(crate::proofs::AsRecord::as_it_is), unfolding(crate::specs::Zeros::row_of, crate::specs::WellFormed::complete, crate::specs::WellFormed::marked))]
 fn row_of(r: &[u8]) -> usize
     requires { length r.now ≡ record_size }
     ensures { result ≡ row_of r.now }
 {
     let groups = r[Record::GROUPS];
-    let end = expiry(r);
-    let classes = classes(r);
-    if (r[Record::MARK] != 0)
-        & (((1 <= groups) & (groups <= Record::MOST_GROUPS)) & ((end.0 != 0) & classes.fits()))
-    {
+    let complete = ((1 <= groups) & (groups <= Record::MOST_GROUPS))
+        & ((expiry(r).0 != 0) & classes(r).fits());
+    if (r[Record::MARK] != 0) & complete {
         groups as usize
     } else {
         0

@@ -18,6 +18,7 @@ use Rattle.record.specs.declared.Service.{Service}
 use Rattle.record.specs.declared.Key.{Key}
 use Rattle.record.specs.Locations.{location_of}
 use Rattle.record.specs.Matching.{matching}
+use Rattle.record_report.specs.declared.Kept.{Kept}
 use Rattle.record_report.specs.Made.{record_of}
 use Rattle.record_report.specs.Normal.{own_table, normal}
 
@@ -37,22 +38,26 @@ report401_at flt =
       items = report401.items;
     }
 
+-- what a record keeps of a report that ends at minute 160
+abbrev pub kept : Report → Kept
+kept x = record { report = x; service = service; expiry = record { 0 = 160 } }
+
 -- its record with class 9 alone that ends at minute 160, by the country and the number of its location table: the items alone, in two groups
 abbrev pub bytes401 : (country ltn : ℕ) → List ℕ
 bytes401 country ltn =
     (0x01 ∷ 0x02 ∷ 0x03 ∷ 0x11 ∷ 0xF4 ∷ 0x01 ∷ 0x91 ∷ 0x01 ∷ 0x00 ∷ 0x01 ∷ 0x00 ∷ 0x02 ∷ 0xA0 ∷ 0x00 ∷ 0x00 ∷ 0x00 ∷ 0x35 ∷ 0x02 ∷ replicate 12 0) ++ (0x00 ∷ 0x0D ∷ country ∷ ltn ∷ 0x00 ∷ 0x02 ∷ replicate 6 0)
 
 -- in table 1 of the same country, though on air it takes three groups
-pub foreign-bytes : record_of (report401_at 0xFF41) service 0x200 160 ≡ bytes401 0x0D 0x01
+pub foreign-bytes : record_of (kept (report401_at 0xFF41)) 0x200 ≡ bytes401 0x0D 0x01
 unfolding bit num bits val words unpack widths width item_bits packing filled listed flt_fields is_flt foreign inter_road bytes_of groups_for groups_of location_of record_of
 foreign-bytes = refl
 
 -- at home, and with the FLT code of the service's own table
-pub home_bytes : record_of report401 service 0x200 160 ≡ bytes401 0x0D 0x11
+pub home_bytes : record_of (kept report401) 0x200 ≡ bytes401 0x0D 0x11
 unfolding bit num bits val words unpack widths width item_bits packing filled listed flt_fields is_flt foreign inter_road bytes_of groups_for groups_of location_of record_of
 home_bytes = refl
 
-pub own_bytes : record_of (report401_at 0xFF51) service 0x200 160 ≡ bytes401 0x0D 0x11
+pub own_bytes : record_of (kept (report401_at 0xFF51)) 0x200 ≡ bytes401 0x0D 0x11
 unfolding bit num bits val words unpack widths width item_bits packing filled listed flt_fields is_flt foreign inter_road bytes_of groups_for groups_of location_of record_of
 own_bytes = refl
 

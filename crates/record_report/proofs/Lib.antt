@@ -1,6 +1,6 @@
 pub mod Filling
 pub mod Bytes
-pub mod Kept
+pub mod Contents
 pub mod Makings
 pub mod Readings
 pub mod MadeFields

@@ -37,8 +37,9 @@ use Rattle.record.proofs.ReportLocations.{location-foreign, location_home}
 use Rattle.record.specs.Layout.{groups_in, expiry_in}
 use Rattle.record.specs.Classes.{set_fits}
 use Rattle.record.specs.WellFormed.{widths, within, ranges_fit, marked, complete, content_bits, spare_in, rest_fits, well_formed}
+use Rattle.record_report.specs.declared.Kept.{Kept}
 use Rattle.record_report.specs.Made.{tail_bytes, marks_fit, can_make, record_of}
-use Rattle.record_report.proofs.Kept.{length-bytes, groups-few}
+use Rattle.record_report.proofs.Contents.{length-bytes, groups-few}
 use Rattle.record_report.proofs.MadeFields.{used_back, groups_back, expiry_back, content_back, set_back}
 use Rattle.record_report.proofs.WayBack.{bits_back}
 use Rattle.record_report.proofs.Reports.{report_ranges}
@@ -74,24 +75,27 @@ within_any (suc n) [] ys ws l h e = absurd (omega arith)
 within_any (suc n) (x ∷ xs) ys ws l h e = within-next _ _ _ _ (h 0 (omega arith)) (within_any n xs ys ws (omega arith) (λ j k. h (suc j) (omega arith)) e)
 
 -- what is tested before a record is made
-record Ranges (r : Report) (s : Service) (set expiry : ℕ) : Type 0 where
-  report-fits : report_fits r ≡ true
-  country_le : s.country ≤ 15
-  ltn_le : s.ltn ≤ 63
-  sid_le : s.sid ≤ 63
+record Ranges (k : Kept) (set : ℕ) : Type 0 where
+  report-fits : report_fits k.report ≡ true
+  country_le : k.service.country ≤ 15
+  ltn_le : k.service.ltn ≤ 63
+  sid_le : k.service.sid ≤ 63
   set-fits : set_fits set ≡ true
-  expiry_ge : 1 ≤ expiry
+  expiry_ge : 1 ≤ k.expiry.0
 
-ranges : (r : Report) (s : Service) (set expiry : ℕ) → can_make r s set expiry ≡ true → Ranges r s set expiry
+ranges : (k : Kept) (set : ℕ) → can_make k set ≡ true → Ranges k set
 unfolding can_make
-ranges r s set expiry e =
+ranges k set e =
+    let r = k.report in
+    let s = k.service in
+    let expiry = k.expiry.0 in
     let places = leb s.ltn 63 && leb s.sid 63 in
-    let marks = and_left (marks_fit s set expiry) (report_fits r) e in
+    let marks = and_left (marks_fit k set) (report_fits r) e in
     let service = and_left (service_fits s) (set_fits set && leb 1 expiry) marks in
     let rest = and_right (service_fits s) (set_fits set && leb 1 expiry) marks in
     let in-places = and_right (leb s.country 15) places service in
     record {
-      report-fits = and_right (marks_fit s set expiry) (report_fits r) e;
+      report-fits = and_right (marks_fit k set) (report_fits r) e;
       country_le = leb-true s.country 15 (and_left (leb s.country 15) places service);
       ltn_le = leb-true s.ltn 63 (and_left (leb s.ltn 63) (leb s.sid 63) in-places);
       sid_le = leb-true s.sid 63 (and_right (leb s.ltn 63) (leb s.sid 63) in-places);
@@ -115,12 +119,21 @@ module _ (r : Report) (fit : report_fits r ≡ true) where
           omega arith
       by_form Multi h = omega arith
 
-module _ (r : Report) (s : Service) (set expiry : ℕ) (can : can_make r s set expiry ≡ true) (small : set < 2 ^ 64) (short : expiry < 0x1_0000_0000) where
-  abbrev c : Ranges r s set expiry
-  c = ranges r s set expiry can
+module _ (k : Kept) (set : ℕ) (can : can_make k set ≡ true) (small : set < 2 ^ 64) (short : k.expiry.0 < 0x1_0000_0000) where
+  abbrev r : Report
+  r = k.report
+
+  abbrev s : Service
+  s = k.service
+
+  abbrev expiry : ℕ
+  expiry = k.expiry.0
+
+  abbrev c : Ranges k set
+  c = ranges k set can
 
   abbrev made : List ℕ
-  made = record_of r s set expiry
+  made = record_of k set
 
   -- the parts of its location are in their ranges
   abbrev InRange : Location → Type 0
@@ -141,8 +154,8 @@ module _ (r : Report) (s : Service) (set expiry : ℕ) (can : can_make r s set e
   spare_zero =
       let fit = c.report-fits in
       let its = listed r.items in
-      let hold : length (packing its) ≤ content_bits made = omega (arith, groups_hold r fit, groups_back r s set expiry) in
-      ap (λ (l : List Bool). all_zero (drop (content_bits made) l)) (ap (flat 8) (content_back r s set expiry) ∙ bits_back its (its_short r fit))
+      let hold : length (packing its) ≤ content_bits made = omega (arith, groups_hold r fit, groups_back k set) in
+      ap (λ (l : List Bool). all_zero (drop (content_bits made) l)) (ap (flat 8) (content_back k set) ∙ bits_back its (its_short r fit))
       ∙ zero-after (packing its) (longest - length (packing its)) (content_bits made) hold
 
   made_ranges : ranges_fit made ≡ true
@@ -156,7 +169,7 @@ module _ (r : Report) (s : Service) (set expiry : ℕ) (can : can_make r s set e
       let l = location_of s r in
       let in_table = location_in in
       let last : within (drop 30 widths) (tail_bytes s l set) ≡ true = within-next _ _ _ _ (omega arith) (within-next _ _ _ _ (omega arith) (within-next _ _ _ _ (omega arith) (within-next _ _ _ _ (omega arith) (eight-within set small)))) in
-      let content = within_any 14 (bytes_of its) (tail_bytes s l set) (drop 30 widths) (length-bytes its) (λ j k. byte_lt its j (its_short r c.report-fits) k) last in
+      let content = within_any 14 (bytes_of its) (tail_bytes s l set) (drop 30 widths) (length-bytes its) (λ j below. byte_lt its j (its_short r c.report-fits) below) last in
       within-next _ _ _ _ (omega arith) (within-next _ _ _ _ (omega arith) (within-next _ _ _ _ (omega arith) (within-next _ _ _ _ (omega arith)
       (within-next _ _ _ _ (omega arith) (within-next _ _ _ _ (omega arith) (within-next _ _ _ _ (omega arith) (within-next _ _ _ _ (omega arith)
       (within-next _ _ _ _ (omega arith) (within-next _ _ _ _ (omega arith) (within-next _ _ _ _ (omega arith) (within-next _ _ _ _ (omega arith)
@@ -168,13 +181,13 @@ module _ (r : Report) (s : Service) (set expiry : ℕ) (can : can_make r s set e
       let known = c in
       let few = groups-few r c.report-fits in
       let hold = groups_hold r c.report-fits in
-      let groups = groups_back r s set expiry in
-      let ends : expiry_in made ≡ 0 → ⊥ = λ z. omega (arith, expiry_back r s set expiry) in
+      let groups = groups_back k set in
+      let ends : expiry_in made ≡ 0 → ⊥ = λ z. omega (arith, expiry_back k set) in
       ap₂ (λ (a b : Bool). a && b) (ap₂ (λ (a b : Bool). a && b) (le-leb 1 (groups_in made) (omega arith)) (le-leb (groups_in made) 5 (omega arith)))
-      (ap₂ (λ (a b : Bool). not a && b) (ne_eqb (expiry_in made) 0 ends) (ap set_fits (set_back r s set expiry small) ∙ known.set-fits))
+      (ap₂ (λ (a b : Bool). not a && b) (ne_eqb (expiry_in made) 0 ends) (ap set_fits (set_back k set small) ∙ known.set-fits))
 
-  pub made_fits : well_formed (record_of r s set expiry) ≡ true
+  pub made_fits : well_formed (record_of k set) ≡ true
   unfolding well_formed rest_fits
   made_fits =
       ap₂ (λ (a b : Bool). a && b) made_ranges
-      (ap (λ (n : ℕ). eqb n 0 || complete made && all_zero (spare_in made)) (used_back r s set expiry) ∙ ap₂ (λ (a b : Bool). a && b) made_complete spare_zero)
+      (ap (λ (n : ℕ). eqb n 0 || complete made && all_zero (spare_in made)) (used_back k set) ∙ ap₂ (λ (a b : Bool). a && b) made_complete spare_zero)

@@ -9,28 +9,26 @@ use lib.Seq.{take-take}
 use lib.Dec.{leb}
 use borrow.Author.Tests.{eqb-true, leb-true, eq-eqb, ne_eqb}
 use Rattle.bits.specs.Fields.{flat}
-use Rattle.bits.specs.Outcome.{gives, refused}
+use Rattle.std.specs.Prelude.{None, Some, Result, Ok, Err}
+use Rattle.report.specs.declared.Report.{Report}
+use Rattle.report.specs.declared.Unreadable.{Unreadable}
+use Rattle.bits.specs.Outcome.{mapped}
+use Rattle.refusal.specs.declared.Refusal.TheVariants.{Malformed}
 use Rattle.bits.proofs.Choice.{and_left, and_right, chosen, passed_over}
 use Rattle.content.specs.declared.content.Content.{Content}
 use Rattle.content.specs.Halves.{bits_of}
 use Rattle.content.specs.Packing.{longest}
-use Rattle.report.specs.declared.Refusal.{Refusal}
-use Rattle.report.specs.declared.Refusal.TheVariants.{Plain}
-use Rattle.report.specs.declared.MessageReading as answer
-use Rattle.report.specs.declared.Answer.TheVariants as message
+use Rattle.report.specs.declared.Unreadable.TheVariants.{Refused}
 use Rattle.report.specs.Report.{single_report}
-use Rattle.report.specs.Read.{Reading, read_items, outcome_of}
-use Rattle.report.proofs.Outcomes.{was_read, was_refused}
-use Rattle.record.specs.declared.Service.{Service}
+use Rattle.report.specs.Read.{read_items}
 use Rattle.record.specs.Layout.{record_size, is_record, byte_at, groups_in, head_in, real_in, duration_in, diversion_in, content_in, service_in, expiry_in}
 use Rattle.record.specs.Gone.{one_record}
 use Rattle.record.specs.WellFormed.{groups_fit, content_bits, well_formed}
-use Rattle.record_report.specs.declared.Answer.TheVariants.{Free, Read, Refused}
-use Rattle.record_report.specs.Reads.{with_real, message_in, message_of, nothing, answered, reading_in, reading_of}
+use Rattle.record_report.specs.Reads.{with_real, message_in, message_of, kept_in, reading_in, reading_of}
 
 -- the message of a record by its groups
 module _ (r : List ℕ) where
-  pub single-message : groups_in r ≡ 1 → message_in r ≡ gives (with_real (real_in r) (single_report (duration_in r) (diversion_in r) (head_in r)))
+  pub single-message : groups_in r ≡ 1 → message_in r ≡ Ok (with_real (real_in r) (single_report (duration_in r) (diversion_in r) (head_in r)))
   unfolding message_in
   single-message e = chosen _ _ _ (eq-eqb (groups_in r) 1 e)
 
@@ -48,9 +46,9 @@ module _ (r : List ℕ) where
         leb-true (groups_in r) 5 (and_right (leb 1 (groups_in r)) (leb (groups_in r) 5) few),
       )
 
-  pub message_by : (b : Bool) → one_record groups_fit r ≡ b → message_of r ≡ cond b (message_in r) (refused (Plain 10))
+  pub message_by : (b : Bool) → one_record groups_fit r ≡ b → message_of r ≡ cond b (message_in r) (Err (Refused Malformed))
   unfolding message_of
-  message_by b e = ap (λ (x : Bool). cond x (message_in r) (refused (Plain 10))) e
+  message_by b e = ap (λ (x : Bool). cond x (message_in r) (Err (Refused Malformed))) e
 
   -- the first bits of the content as it is held
   pub held-bits : (x : Content) → groups_in r ≤ 5 → take longest (bits_of x) ≡ flat 8 (content_in r) → take (content_bits r) (bits_of x) ≡ take (content_bits r) (flat 8 (content_in r))
@@ -59,11 +57,11 @@ module _ (r : List ℕ) where
       sym (take-take (content_bits r) longest (bits_of x) short) ∙ ap (take (content_bits r)) e
 
   -- the readings of a free and of a used record
-  pub free_reading : byte_at r 0 ≡ 0 → reading_in r ≡ nothing Free
+  pub free_reading : byte_at r 0 ≡ 0 → reading_in r ≡ Ok None
   unfolding reading_in
   free_reading e = chosen _ _ _ (eq-eqb (byte_at r 0) 0 e)
 
-  pub used_reading : (byte_at r 0 ≡ 0 → ⊥) → reading_in r ≡ answered (message_in r) (service_in r) (expiry_in r)
+  pub used_reading : (byte_at r 0 ≡ 0 → ⊥) → reading_in r ≡ mapped (λ x. Some (kept_in r x)) (message_in r)
   unfolding reading_in
   used_reading e = passed_over _ _ _ (ne_eqb (byte_at r 0) 0 e)
 
@@ -72,12 +70,7 @@ module _ (r : List ℕ) where
   unfolding reading_of
   fit_reading e h = chosen _ _ _ (ap₂ (λ (a b : Bool). a && b) (eq-eqb (length r) record_size e) h)
 
--- the answer to a message by its outcome
-module _ (x : answer.MessageReading) (m : Reading) (s : Service) (expiry : ℕ) (e : x ≡ outcome_of m) where
-  pub answered-read : x.answer ≡ message.Read → record { answer = Read; report = x.report; service = s; expiry = record { 0 = expiry } } ≡ answered m s expiry
-  unfolding answered
-  answered-read a = sym (ap (λ (y : Reading). answered y s expiry) (was_read m x e a))
-
-  pub answered-refused : (u : Refusal) → x.answer ≡ message.Refused u → nothing (Refused u) ≡ answered m s expiry
-  unfolding answered
-  answered-refused u a = sym (ap (λ (y : Reading). answered y s expiry) (was_refused m x u e a))
+  -- and of a used record, by its message
+  pub used_gives : (x : Result Report Unreadable) → is_record r && well_formed r ≡ true → (byte_at r 0 ≡ 0 → ⊥) → x ≡ message_in r → reading_of r ≡ mapped (λ y. Some (kept_in r y)) x
+  unfolding reading_of
+  used_gives x h used e = chosen _ _ _ h ∙ used_reading used ∙ ap (mapped (λ y. Some (kept_in r y))) (sym e)

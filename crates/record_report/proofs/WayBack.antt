@@ -7,7 +7,8 @@ use native.Mathlib.Omega.{arith}
 use lib.ListN.{length, take, length-append, length-replicate}
 use lib.Seq.{take-append-add}
 use Rattle.bits.specs.Fields.{flat}
-use Rattle.bits.specs.Outcome.{gives}
+use Rattle.std.specs.Prelude.{Some, Ok}
+use Rattle.bits.specs.Outcome.{mapped}
 use Rattle.bits.proofs.Choice.{and_left, and_right}
 use Rattle.bits.proofs.Fields.{flat-words}
 use Rattle.word.specs.declared.Head.{Head}
@@ -20,7 +21,7 @@ use Rattle.report.specs.declared.Report.{Report}
 use Rattle.report.specs.declared.Form.{Form}
 use Rattle.report.specs.declared.Form.TheVariants.{Single, Multi}
 use Rattle.report.specs.Report.{single_report, multi_report}
-use Rattle.report.specs.Read.{Reading, read_items}
+use Rattle.report.specs.Read.{read_items}
 use Rattle.report.specs.Fits.{fits_by, real_fits, report_fits}
 use Rattle.report.specs.Record.{bytes_of, groups_for, groups_of}
 use Rattle.report.proofs.Wholes.{items-read}
@@ -30,10 +31,10 @@ use Rattle.report.proofs.OwnParts.{multi_is_report, single_is_report}
 use Rattle.record.specs.declared.Service.{Service}
 use Rattle.record.specs.Layout.{byte_at, groups_in, service_in, head_in, real_in, expiry_in}
 use Rattle.record.specs.WellFormed.{content_bits}
-use Rattle.record_report.specs.declared.Answer.TheVariants.{Read}
+use Rattle.record_report.specs.declared.Kept.{Kept}
 use Rattle.record_report.specs.Made.{record_of}
 use Rattle.record_report.specs.Normal.{own_table, brought_home, normal}
-use Rattle.record_report.specs.Reads.{with_real, message_in, answered, reading_in}
+use Rattle.record_report.specs.Reads.{with_real, message_in, kept_in, reading_in}
 use Rattle.record_report.proofs.MadeFields.{used_back, groups_back, head_back, real_back, expiry_back, content_back, service_back}
 use Rattle.record_report.proofs.Normal.{normal_is, single-normal, normal-gives, same_head}
 use Rattle.record_report.proofs.Readings.{single-message, multi-message, used_reading}
@@ -71,15 +72,24 @@ module _ (r : Report) where
   pub fewest_groups : r.form ≡ Multi → (k : ℕ) → 2 ≤ k → length (packing (listed r.items)) ≤ group_bits * (k - 1) → groups_of r ≤ k
   fewest_groups e k many hold = let n = length (packing (listed r.items)) in omega (arith, multi-groups e)
 
-module _ (r : Report) (s : Service) (set expiry : ℕ) (sized : length r.items.places ≡ limit) (fit : report_fits r ≡ true) where
+module _ (k : Kept) (set : ℕ) (sized : length k.report.items.places ≡ limit) (fit : report_fits k.report ≡ true) where
+  abbrev r : Report
+  r = k.report
+
+  abbrev s : Service
+  s = k.service
+
+  abbrev expiry : ℕ
+  expiry = k.expiry.0
+
   abbrev made : List ℕ
-  made = record_of r s set expiry
+  made = record_of k set
 
   normal-head : head_in made ≡ (normal s r).head
-  normal-head = head_back r s set expiry ∙ same_head s r fit
+  normal-head = head_back k set ∙ same_head s r fit
 
   normal_real : real_in made ≡ (normal s r).real
-  normal_real = real_back r s set expiry ∙ (normal-gives s r fit).1
+  normal_real = real_back k set ∙ (normal-gives s r fit).1
 
   -- the report in its normal form is that of its own head, real location and items
   multi-normal : multi_report r.head r.real (listed r.items) ≡ r → multi_report (normal s r).head (normal s r).real (listed r.items) ≡ normal s r
@@ -96,36 +106,35 @@ module _ (r : Report) (s : Service) (set expiry : ℕ) (sized : length r.items.p
           let n = normal_is s r false f in
           ap (λ (x : Report). multi_report x.head x.real its) n ∙ e ∙ sym n
 
-  pub reads_back : message_in made ≡ gives (normal s r)
+  pub reads_back : message_in made ≡ Ok (normal s r)
   unfolding report_fits record_of
   reads_back = by_form r.form refl (and_right (real_fits r.form r.head r.real) (fits_by r.form r) fit)
     where
-      by_form : (f : Form) → r.form ≡ f → fits_by f r ≡ true → message_in made ≡ gives (normal s r)
+      by_form : (f : Form) → r.form ≡ f → fits_by f r ≡ true → message_in made ≡ Ok (normal s r)
       by_form Single e h =
           let n = single-normal s r e in
           let real = and_left (real_fits r.form r.head r.real) (fits_by r.form r) fit in
-          single-message made (groups_back r s set expiry ∙ single-groups r e)
-          ∙ ap₂ (λ (x : Head) (y : ℕ). gives (with_real y (single_report r.duration r.diversion x))) normal-head normal_real
-          ∙ ap (λ (x : Report). gives (with_real x.real (single_report r.duration r.diversion x.head))) n
-          ∙ ap (λ (x : Report). gives (with_real r.real x)) (single_is_report r sized real (unfold fits_by in h) e)
-          ∙ ap gives (sym n)
+          single-message made (groups_back k set ∙ single-groups r e)
+          ∙ ap₂ (λ (x : Head) (y : ℕ). Ok (with_real y (single_report r.duration r.diversion x))) normal-head normal_real
+          ∙ ap (λ (x : Report). Ok (with_real x.real (single_report r.duration r.diversion x.head))) n
+          ∙ ap (λ (x : Report). Ok (with_real r.real x)) (single_is_report r sized real (unfold fits_by in h) e)
+          ∙ ap Ok (sym n)
       by_form Multi e h =
           let its = listed r.items in
           let n = length (packing its) in
           let can = fit-writable r.items (report-items r fit) in
           let short = packable_short its (writable-packable its can) in
           let many : groups_in made ≡ 1 → ⊥ = λ z. let g = multi-groups r e in let one : groups n ≡ 1 = sym g ∙ z in omega arith in
-          let bits_are = ap₂ (λ (m : ℕ) (l : List ℕ). take (group_bits * (m - 1)) (flat 8 l)) (multi-groups r e) (content_back r s set expiry) ∙ padded_back its short in
+          let bits_are = ap₂ (λ (m : ℕ) (l : List ℕ). take (group_bits * (m - 1)) (flat 8 l)) (multi-groups r e) (content_back k set) ∙ padded_back its short in
           multi-message made many
           ∙ (λ i. read_items (normal-head i) (normal_real i) (content_bits made) (bits_are i))
           ∙ items-read (normal s r).head (normal s r).real (content_bits made) _ its (written_is_read [] its can short)
-          ∙ ap gives (multi-normal (multi_is_report r sized (unfold fits_by in h) e))
+          ∙ ap Ok (multi-normal (multi_is_report r sized (unfold fits_by in h) e))
 
   -- the whole reading: the report with its service and its expiry
-  pub reading_back : reading_in made ≡ record { answer = Read; report = normal s r; service = s; expiry = record { 0 = expiry } }
-  unfolding answered
+  pub reading_back : reading_in made ≡ Ok (Some (record { report = normal s r; service = s; expiry = k.expiry }))
   reading_back =
-      let used : byte_at made 0 ≡ 0 → ⊥ = λ z. omega (arith, used_back r s set expiry) in
+      let used : byte_at made 0 ≡ 0 → ⊥ = λ z. omega (arith, used_back k set) in
       used_reading made used
-      ∙ ap (λ (m : Reading). answered m (service_in made) (expiry_in made)) reads_back
-      ∙ ap₂ (λ (x : Service) (n : ℕ). answered (gives (normal s r)) x n) (service_back r s set expiry) (expiry_back r s set expiry)
+      ∙ ap (mapped (λ x. Some (kept_in made x))) reads_back
+      ∙ ap₂ (λ (x : Service) (n : ℕ). Ok (Some (record { report = normal s r; service = x; expiry = record { 0 = n } }))) (service_back k set) (expiry_back k set)

@@ -1,57 +1,49 @@
 // A record made from a report.
 ghost use Rattle.std.specs.Prelude.{◌≡◌, ◌++◌, length};
 ghost use Rattle.record.specs.Layout.{record_size, content_in};
-ghost use Rattle.record.specs.Locations.{location_of};
-ghost use Rattle.record_report.specs.Made.{front_bytes, tail_bytes, marks_fit, making_in, bytes_made};
+ghost use Rattle.record_report.specs.Made.{front_bytes, tail_bytes, location_kept, marks_fit, making_in, bytes_made};
 
-use crate::Making;
-use clock::Utc;
+use crate::Kept;
+use record::Record;
 use record::classes::Classes;
-use record::{Record, Service};
-use report::{Packing, Report};
+use refusal::Refusal;
 
-// Makes the bytes the record of a report. Bytes that are not one record's are refused (10), then a report that a writer does not take and a
-// service, classes or expiry that no record has (9). A refusal leaves the bytes.
-pub fn put(r: &mut [u8], report: Report, service: Service, classes: Classes, expiry: Utc) -> Making
-    ensures value { result ≡ making_in r.old report service classes.0 expiry.0 }
-    ensures r_after { r.new ≡ bytes_made r.old report service classes.0 expiry.0 }
+// Makes the bytes the record of what is to be kept. Bytes that are not one record's are refused (10), then a report that a writer does not
+// take and a service, classes or expiry that no record has (9). A refusal leaves the bytes.
+pub fn put(r: &mut [u8], kept: Kept, classes: Classes) -> Result<(), Refusal>
+    ensures value { result ≡ making_in r.old kept classes.0 }
+    ensures r_after { r.new ≡ bytes_made r.old kept classes.0 }
 {
     if r.len() != Record::SIZE {
-        return Making::Refused(10);
+        return Err(Refusal::Malformed);
     }
-    if !marks_fit(service, classes, expiry) {
-        return Making::Refused(9);
+    if !marks_fit(kept, classes) {
+        return Err(Refusal::Unfit);
     }
-    let packing = report.pack_content(&mut r[Record::CONTENT..Record::RESERVED]);
-    let Packing::Groups(groups) = packing else {
-        return Making::Refused(9);
-    };
-    put_fields(r, groups as u8, report, service, classes, expiry);
-    Making::Made
+    let groups = kept
+        .report
+        .pack_content(&mut r[Record::CONTENT..Record::RESERVED])?;
+    put_fields(r, groups as u8, kept, classes);
+    Ok(())
 }
 
 // Whether a record may have the service, the classes and the expiry.
-fn marks_fit(service: Service, classes: Classes, expiry: Utc) -> bool
-    ensures { result ≡ marks_fit service classes.0 expiry.0 }
+fn marks_fit(kept: Kept, classes: Classes) -> bool
+    ensures { result ≡ marks_fit kept classes.0 }
 {
-    service.fits() & (classes.fits() & (1 <= expiry.0))
+    kept.service.fits() & (classes.fits() & (1 <= kept.expiry.0))
 }
 
-// Every byte but those of the content, from the first to the last.
-fn put_fields(
-    r: &mut [u8],
-    groups: u8,
-    report: Report,
-    service: Service,
-    classes: Classes,
-    expiry: Utc,
-)
+// Every byte but those of the content, from the first to the last, each stored by the name of its place.
+fn put_fields(r: &mut [u8], groups: u8, kept: Kept, classes: Classes)
     requires { length r.old ≡ record_size }
-    ensures { r.new ≡ front_bytes groups report service (location_of service report) expiry.0 ++ (content_in r.old ++ tail_bytes service (location_of service report) classes.0) }
+    ensures { r.new ≡ front_bytes groups kept (location_kept kept) ++ (content_in r.old ++ tail_bytes kept.service (location_kept kept) classes.0) }
 {
+    let report = kept.report;
+    let service = kept.service;
     let head = report.head;
     let location = service.location_of(report);
-    let end = expiry.0;
+    let end = kept.expiry.0;
     r[Record::MARK] = 1;
     r[Record::GROUPS] = groups;
     r[Record::SID] = service.sid;

@@ -7,15 +7,15 @@ use mathlib.Core.Bool.{Bool, true, false, cond}
 use mathlib.Core.List.{List, [], ◌++◌, append_assoc}
 use lib.ListN.{length, take, drop, length-append, length-drop}
 use lib.Seq.{take_at, drop_at, drop-drop, length-take-le}
-use Rattle.report.specs.declared.Refusal.TheVariants.{Plain}
+use Rattle.std.specs.Prelude.{Result}
+use Rattle.refusal.specs.declared.Refusal.{Refusal}
 use Rattle.lines.specs.Text.{put, Put}
-use Rattle.lines.specs.Line.{refusal_line}
 use Rattle.session.specs.declared.Session.{Session}
 use Rattle.framing.specs.declared.Frame.{Frame}
 use Rattle.framing.specs.declared.Frame.TheVariants.{End, Part, Bad, Whole}
 use Rattle.framing.specs.Frame.{frame_of}
 use Rattle.session.specs.Session.{next, after_frame, frame_text, frame_room}
-use Rattle.recording.specs.Listing.{frame_in, lines_from, whole, ended_at, refused_at, lines_left, Listed}
+use Rattle.recording.specs.Listing.{frame_in, lines_from, whole, end_at, end_text, ends, lines_left, Listed}
 use Rattle.recording.proofs.Lines.{whole_there, whole_lines, end_lines}
 
 -- text up to a cell, and the cells after it, once more text is put there
@@ -30,12 +30,13 @@ put_back a t l h =
     drop_at (take a l ++ t) (drop (a + length t) l) (a + length t) (length-append (take a l) t ∙ ap (λ (m : ℕ). m + length t) (length-take-le a l h))
 
 -- bytes that do not end the listing were not the last
-waits : (last : Bool) (frame : Frame) → whole frame ≡ false → ended_at frame last ≡ false → last ≡ false
-unfolding whole ended_at
+waits : (last : Bool) (frame : Frame) → whole frame ≡ false → ends (end_at frame last) ≡ false → last ≡ false
+unfolding whole end_at
 waits last End w e = e
-waits last Part w e = e
-waits last Bad w e = let z : ◌≡◌ {A = ℕ} 0 1 = cc in absurd (omega arith)
-waits last (Whole n) w e = let z : ◌≡◌ {A = ℕ} 0 1 = cc in absurd (omega arith)
+waits true Part w e = absurd (cc)
+waits false Part w e = refl
+waits last Bad w e = absurd (cc)
+waits last (Whole n) w e = absurd (cc)
 
 sums : (from n : ℕ) → from + (2 + n) ≡ from + 2 + n
 sums from n = omega arith
@@ -86,8 +87,9 @@ module _ (s : Session) (input : List ℕ) (last : Bool) (out₀ : List ℕ) (now
       }
 
   -- no whole frame is left
-  pub going_end : (frame : Frame) (ended : Bool) → frame_of (drop from input) ≡ frame → whole frame ≡ false → t ≡ cond (refused_at frame last) (refusal_line (next now.frames) (Plain 1)) [] → ended ≡ ended_at frame last → e ≤ length out' → Listed s input last out₀ (record { session = now; taken = from; written = e; ended = ended }) out'
-  going_end frame ended f w text is inside =
+  pub going_end : (frame : Frame) (r : Result Bool Refusal) → frame_of (drop from input) ≡ frame → whole frame ≡ false → end_at frame last ≡ r → t ≡ end_text (next now.frames) r → e ≤ length out'
+      → Listed s input last out₀ (record { session = now; taken = from; written = e; ended = ends r }) out'
+  going_end frame r f w is text inside =
       record {
         within = (g.taken, inside);
         others = back;
@@ -96,10 +98,11 @@ module _ (s : Session) (input : List ℕ) (last : Bool) (out₀ : List ℕ) (now
             g.text rest h
             ∙ ap (λ (l : List ℕ). take at out ++ l)
             (end_lines now (drop from input) rest last frame f w h
-            ∙ ap₂ (λ (x : List ℕ) (b : Bool). x ++ lines_left b now (drop from input ++ rest)) (sym text) (sym is))
-            ∙ sym (append_assoc (take at out) t (lines_left ended now (drop from input ++ rest)))
-            ∙ ap (λ (l : List ℕ). l ++ lines_left ended now (drop from input ++ rest)) (sym front);
-        far = λ open'. inr (waits last frame w (sym is ∙ open'), ap whole f ∙ w);
+            ∙ ap (λ (x : Result Bool Refusal). end_text (next now.frames) x ++ lines_left (ends x) now (drop from input ++ rest)) is
+            ∙ ap (λ (l : List ℕ). l ++ lines_left (ends r) now (drop from input ++ rest)) (sym text))
+            ∙ sym (append_assoc (take at out) t (lines_left (ends r) now (drop from input ++ rest)))
+            ∙ ap (λ (l : List ℕ). l ++ lines_left (ends r) now (drop from input ++ rest)) (sym front);
+        far = λ open'. inr (waits last frame w (ap ends is ∙ open'), ap whole f ∙ w);
       }
 
 -- there is less room than a frame may take

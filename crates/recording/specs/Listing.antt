@@ -1,13 +1,13 @@
 -- The whole listing (document 01, "The listing program").
-use Rattle.std.specs.Prelude.{ℕ, zero, suc, ◌+◌, ◌≤◌, ◌<◌, ◌≡◌, ◌⊎◌, Bool, true, false, cond, List, [], ◌++◌, length, take, drop}
-use Rattle.report.specs.declared.Refusal.TheVariants.{Plain}
+use Rattle.std.specs.Prelude.{ℕ, zero, suc, ◌+◌, ◌≤◌, ◌<◌, ◌≡◌, ◌⊎◌, Bool, true, false, cond, List, [], ◌++◌, length, take, drop, Result, Ok, Err}
+use Rattle.refusal.specs.declared.Refusal.{Refusal}
+use Rattle.refusal.specs.declared.Refusal.TheVariants.{WrongLength, SmallBuffer}
+use Rattle.report.specs.declared.Unreadable.TheVariants.{Refused}
 use Rattle.lines.specs.Line.{header, refusal_line}
 use Rattle.framing.specs.Frame.{frame_of}
 use Rattle.session.specs.Session.{start, next, after_frame, frame_text, frame_room}
 use Rattle.session.specs.declared.Session.{Session}
 use Rattle.recording.specs.declared.Progress.{Progress}
-use Rattle.recording.specs.declared.Answer.{Answer}
-use Rattle.recording.specs.declared.Answer.TheVariants as answer
 use Rattle.framing.specs.declared.Frame.{Frame}
 use Rattle.framing.specs.declared.Frame.TheVariants.{End, Part, Bad, Whole}
 
@@ -19,8 +19,8 @@ frame_in n input = take n (drop 2 input)
 -- print refusal 1 and end
 unfoldable pub from_frame : (Session → List ℕ → List ℕ) → Session → List ℕ → Frame → List ℕ
 from_frame rest s input End = []
-from_frame rest s input Part = refusal_line (next s.frames) (Plain 1)
-from_frame rest s input Bad = refusal_line (next s.frames) (Plain 1)
+from_frame rest s input Part = refusal_line (next s.frames) (Refused WrongLength)
+from_frame rest s input Bad = refusal_line (next s.frames) (Refused WrongLength)
 from_frame rest s input (Whole n) = frame_text s (frame_in n input) ++ rest (after_frame s (frame_in n input)) (drop (2 + n) input)
 
 -- the lines of an input, by a bound on its frames that no input meets
@@ -43,18 +43,21 @@ whole Part = false
 whole Bad = false
 whole (Whole n) = true
 
--- whether bytes that begin so, the last ones or not, end the listing, and whether they print refusal 1
-unfoldable pub ended_at : Frame → Bool → Bool
-ended_at End last = last
-ended_at Part last = last
-ended_at Bad last = true
-ended_at (Whole n) last = false
+-- whether bytes that begin so, the last ones or not, end the listing; a cut frame and a length that no frame has are refused
+unfoldable pub end_at : Frame → Bool → Result Bool Refusal
+end_at End last = Ok last
+end_at Part last = cond last (Err WrongLength) (Ok false)
+end_at Bad last = Err WrongLength
+end_at (Whole n) last = Ok false
 
-unfoldable pub refused_at : Frame → Bool → Bool
-refused_at End last = false
-refused_at Part last = last
-refused_at Bad last = true
-refused_at (Whole n) last = false
+-- what that prints with the number of the frame, and whether it ends the listing: a refusal does
+abbrev pub end_text : ℕ → Result Bool Refusal → List ℕ
+end_text frame (Ok ended) = []
+end_text frame (Err refusal) = refusal_line frame (Refused refusal)
+
+abbrev pub ends : Result Bool Refusal → Bool
+ends (Ok ended) = ended
+ends (Err refusal) = true
 
 -- the lines that are left after a call
 abbrev pub lines_left : Bool → Session → List ℕ → List ℕ
@@ -68,7 +71,7 @@ pub record Listed (s : Session) (input : List ℕ) (last : Bool) (out : List ℕ
   pub text : (rest : List ℕ) → (last ≡ true → rest ≡ []) → lines_from s (input ++ rest) ≡ take p.written out' ++ lines_left p.ended p.session (drop p.taken input ++ rest)
   pub far : p.ended ≡ false → (length out < p.written + frame_room) ⊎ ((last ≡ false) × (whole (frame_of (drop p.taken input)) ≡ false))
 
--- what a call answers: refusal 15 for a buffer that the text of a frame may not fit into, which stays as it is; else how far it got
-unfoldable pub Answered : Session → List ℕ → Bool → List ℕ → Answer → List ℕ → Type 0
-Answered s input last out (answer.Listed p) out' = (frame_room ≤ length out) × Listed s input last out p out'
-Answered s input last out (answer.Refused n) out' = (length out < frame_room) × (n ≡ 15) × (out' ≡ out)
+-- what a call answers: a buffer that the text of a frame may not fit into is refused, and stays as it is; else how far it got
+unfoldable pub Answered : Session → List ℕ → Bool → List ℕ → Result Progress Refusal → List ℕ → Type 0
+Answered s input last out (Ok p) out' = (frame_room ≤ length out) × Listed s input last out p out'
+Answered s input last out (Err refusal) out' = (length out < frame_room) × (refusal ≡ SmallBuffer) × (out' ≡ out)

@@ -12,31 +12,31 @@ use Rattle.content.specs.Content.{content}
 use Rattle.content.specs.Packing.{item_fits}
 use Rattle.report.specs.declared.Report.{Report}
 use Rattle.report.specs.Report.{single_report, multi_report}
-use Rattle.report.specs.declared.Refusal.TheVariants.{Broken}
+use Rattle.std.specs.Prelude.{Ok, Err}
+use Rattle.refusal.specs.declared.Refusal.TheVariants.{CutShort, Malformed}
+use Rattle.report.specs.declared.Unreadable.TheVariants.{Broken}
 use Rattle.report.specs.Read.{placed, read_items}
 use Rattle.record.specs.declared.Service.{Service}
 use Rattle.record.specs.Locations.{head_location, real_location}
 use Rattle.record.specs.Layout.{free_record, four_bytes, eight_bytes, with_set}
 use Rattle.record.specs.Gone.{one_record}
-use Rattle.record_report.specs.declared.Answer.TheVariants as reading
 use Rattle.record_report.specs.Made.{record_of}
-use Rattle.record_report.specs.Reads.{message_in, message_of, nothing, answered, reading_in}
+use Rattle.record_report.specs.Reads.{message_in, message_of, reading_in}
 use Rattle.checks.specs.declared.Arrival.{Arrival}
 use Rattle.table.specs.declared.Step.{Step}
 use Rattle.table.specs.declared.WhenFull.TheVariants.{Keep}
-use Rattle.table.specs.declared.Answer.TheVariants.{Freed, Stored, Refused}
+use Rattle.table.specs.declared.Answer.TheVariants.{Freed, Stored}
 use Rattle.table.specs.Steps.{step}
 use Rattle.table.specs.Expire.{expire_step}
 use Rattle.table.specs.Read.{record_at}
 use Rattle.table.specs.Take.{take_step, take_table}
 use Rattle.table.proofs.Examples.{computing}
-use Rattle.renewal.specs.declared.Answer.TheVariants as renewal
 use Rattle.renewal.specs.Classes.{classes_in, classed}
 use Rattle.renewal.specs.Renewal.{renewed, renew_fits, renew_answer, renew_table}
 
 -- names what the cases compute with
 unfoldable renewing : Unit {0}
-unfolding computing widths width valued labelled first and_then read_by items_within items content item_fits placed read_items head_location real_location with_set one_record message_in message_of nothing answered reading_in record_at classes_in classed renewed renew_fits renew_answer renew_table
+unfolding computing widths width valued labelled first and_then read_by items_within items content item_fits placed read_items head_location real_location with_set one_record message_in message_of reading_in record_at classes_in classed renewed renew_fits renew_answer renew_table
 renewing = tt
 
 abbrev catalogue : List ℕ
@@ -58,7 +58,7 @@ accident event = multi_report (head 201) 0 (record { label = 9; value = event } 
 
 -- a report's record with a set, which ends at a minute
 abbrev kept : Report → (classes expiry : ℕ) → List ℕ
-kept x classes expiry = record_of x service classes expiry
+kept x classes expiry = record_of (record { report = x; service = service; expiry = record { 0 = expiry } }) classes
 
 -- what arrives at a minute
 abbrev arrival : Report → ℕ → Arrival
@@ -76,20 +76,20 @@ unreadable expiry =
 -- each case: a table, what arrives, and what is answered
 pub additional_events :
     -- the lane closure is cancelled, or told anew: the accident that has it as an additional event goes
-    (taking (kept (accident 641) 0x220 160) (single 2028) ≡ step 30 (Freed 0 1))
-    × (taking (kept (accident 641) 0x220 160) (single 641) ≡ step 30 (Stored 0 1 0))
+    (taking (kept (accident 641) 0x220 160) (single 2028) ≡ step 30 (Ok (Freed 0 1)))
+    × (taking (kept (accident 641) 0x220 160) (single 641) ≡ step 30 (Ok (Stored 0 1 0)))
     -- an accident with a cancelling additional event is ordinary: it frees the records of both its classes, and is stored
-    × (taking (kept (single 201) 0x20 160 ++ kept (single 641) 0x200 160) (accident 2028) ≡ step 30 (Stored 0 2 0))
+    × (taking (kept (single 201) 0x20 160 ++ kept (single 641) 0x200 160) (accident 2028) ≡ step 30 (Ok (Stored 0 2 0)))
     -- a record that has expired and matches has expired
-    × (taking (kept (accident 641) 0x220 30) (single 2028) ≡ step 30 (Freed 1 0))
+    × (taking (kept (accident 641) 0x220 30) (single 2028) ≡ step 30 (Ok (Freed 1 0)))
     -- content that does not read does not matter to a take, nor a first event that the catalogue does not know: the set is matched
-    × (taking (unreadable 160) (single 2028) ≡ step 30 (Freed 0 0))
-    × (taking (unreadable 160) (single 201) ≡ step 30 (Stored 0 1 0))
-    × (taking (kept (single 300) 0x20 160) (single 201) ≡ step 30 (Stored 0 1 0))
+    × (taking (unreadable 160) (single 2028) ≡ step 30 (Ok (Freed 0 0)))
+    × (taking (unreadable 160) (single 201) ≡ step 30 (Ok (Stored 0 1 0)))
+    × (taking (kept (single 300) 0x20 160) (single 201) ≡ step 30 (Ok (Stored 0 1 0)))
     -- a renewal refuses both
-    × (renew_answer (unreadable 160) catalogue ≡ renewal.Refused 10)
-    × (renew_answer (kept (single 300) 0x20 160) catalogue ≡ renewal.Refused 10)
-    × (record_at (unreadable 160) 0 ≡ nothing (reading.Refused (Broken 7 24)))
+    × (renew_answer (unreadable 160) catalogue ≡ Err Malformed)
+    × (renew_answer (kept (single 300) 0x20 160) catalogue ≡ Err Malformed)
+    × (record_at (unreadable 160) 0 ≡ Err (Broken CutShort 24))
 unfolding renewing
 additional_events = (refl, refl, refl, refl, refl, refl, refl, refl, refl, refl)
 
@@ -115,12 +115,12 @@ pub stored_sets :
     × (keeps (set catalogue 201 0x7F) (single 201) ≡ kept (single 201) 0x8000_0000_0000_0000 160)
     -- the lane closure is in class 10 from now on, or the accident is not known any more: then nothing changes
     × (renew_table (bytes201 (0x20 ∷ 0x02 ∷ replicate 6 0)) (set catalogue 641 0x4A) ≡ bytes201 (0x20 ∷ 0x04 ∷ replicate 6 0))
-    × (renew_answer (bytes201 (0x20 ∷ 0x02 ∷ replicate 6 0) ++ free_record) (set catalogue 641 0x4A) ≡ renewal.Renewed 1)
-    × (renew_answer (bytes201 (0x20 ∷ 0x02 ∷ replicate 6 0)) (set catalogue 201 0) ≡ renewal.Refused 10)
+    × (renew_answer (bytes201 (0x20 ∷ 0x02 ∷ replicate 6 0) ++ free_record) (set catalogue 641 0x4A) ≡ Ok 1)
+    × (renew_answer (bytes201 (0x20 ∷ 0x02 ∷ replicate 6 0)) (set catalogue 201 0) ≡ Err Malformed)
     × (renew_table (bytes201 (0x20 ∷ 0x02 ∷ replicate 6 0)) (set catalogue 201 0) ≡ bytes201 (0x20 ∷ 0x02 ∷ replicate 6 0))
     -- a set that is empty, class 0 in it, a reserved byte that is not 0
-    × (expiring (bytes201 (replicate 8 0)) ≡ step 0 (Refused 10))
-    × (expiring (bytes201 (0x21 ∷ 0x02 ∷ replicate 6 0)) ≡ step 0 (Refused 10))
-    × (expiring (set (bytes201 (0x20 ∷ 0x02 ∷ replicate 6 0)) 30 9) ≡ step 0 (Refused 10))
+    × (expiring (bytes201 (replicate 8 0)) ≡ step 0 (Err Malformed))
+    × (expiring (bytes201 (0x21 ∷ 0x02 ∷ replicate 6 0)) ≡ step 0 (Err Malformed))
+    × (expiring (set (bytes201 (0x20 ∷ 0x02 ∷ replicate 6 0)) 30 9) ≡ step 0 (Err Malformed))
 unfolding renewing
 stored_sets = (refl, refl, refl, refl, refl, refl, refl, refl, refl, refl, refl)

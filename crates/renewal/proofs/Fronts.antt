@@ -8,10 +8,11 @@ use lib.ListN.{length, take, drop, get_or, length-append, length-drop}
 use lib.Seq.{take-append-le, drop-append-le, take_at, get_or-take}
 use lib.Dec.{eqb, leb}
 use Rattle.bits.specs.Fields.{flat}
-use Rattle.bits.specs.Outcome.{gives, refused}
+use Rattle.std.specs.Prelude.{Ok, Err}
 use Rattle.content.specs.Packing.{group_bits}
 use Rattle.report.specs.Report.{single_report}
-use Rattle.report.specs.declared.Refusal.TheVariants.{Plain}
+use Rattle.refusal.specs.declared.Refusal.TheVariants.{Malformed}
+use Rattle.report.specs.declared.Unreadable.TheVariants.{Refused}
 use Rattle.report.specs.Read.{read_items}
 use Rattle.record.specs.Locations.{head_location, real_location}
 use Rattle.record.specs.Layout.{record_size, byte_at, two_at, service_in, location_in, head_in, expiry_in, event_in, content_in, set_at}
@@ -78,7 +79,7 @@ module _ (f a b : List ℕ) (long : length f ≡ set_at) where
       let duration = same_byte 11 (omega arith) in
       let real = ap₂ real_location same-service same-location in
       λ i.
-      cond (eqb (groups i) 1) (gives (with_real (real i) (single_report (duration i) (diversion i) (same_head i))))
+      cond (eqb (groups i) 1) (Ok (with_real (real i) (single_report (duration i) (diversion i) (same_head i))))
       (read_items (same_head i) (real i) (group_bits * (groups i - 1)) (take (group_bits * (groups i - 1)) (flat 8 (same-content i))))
 
   -- and the same message
@@ -87,4 +88,4 @@ module _ (f a b : List ℕ) (long : length f ≡ set_at) where
   same-message e =
       let size : length (f ++ a) ≡ length (f ++ b) = length-append f a ∙ ap (λ (n : ℕ). length f + n) e ∙ sym (length-append f b) in
       let groups = same_byte 1 (omega arith) in
-      λ i. cond (eqb (size i) record_size && (leb 1 (groups i) && leb (groups i) 5)) (same-message_in i) (refused (Plain 10))
+      λ i. cond (eqb (size i) record_size && (leb 1 (groups i) && leb (groups i) 5)) (same-message_in i) (Err (Refused Malformed))

@@ -7,7 +7,7 @@ use mathlib.Core.List.{List}
 use lib.ListN.{length}
 use lib.Dec.{eqb}
 use borrow.Author.Tests.{le-leb, eq-eqb, ne_eqb}
-use Rattle.bits.specs.Outcome.{gives, given}
+use Rattle.std.specs.Prelude.{Ok, is_ok}
 use Rattle.bits.proofs.Choice.{and_right}
 use Rattle.word.specs.declared.Head.{Head}
 use Rattle.content.specs.Stored.{limit}
@@ -19,6 +19,7 @@ use Rattle.record.specs.Classes.{set_of}
 use Rattle.record.specs.WellFormed.{groups_fit}
 use Rattle.record.proofs.Ranges.{groups_range}
 use Rattle.record.proofs.Steps.{one_record_lem}
+use Rattle.record_report.specs.declared.Kept.{Kept}
 use Rattle.record_report.specs.Made.{record_of, can_make, marks_fit}
 use Rattle.record_report.specs.Normal.{own_table, normal}
 use Rattle.record_report.specs.Reads.{message_of}
@@ -31,9 +32,9 @@ use Rattle.lent.specs.Catalogue.{entry_at, has_class}
 use Rattle.classes.specs.Events.{events_of}
 use Rattle.classes.specs.Classes.{event_classes, classes_of}
 use Rattle.classes.proofs.ReportSets.{set_small}
-use Rattle.renewal.specs.Classes.{classes_in, classed}
+use Rattle.renewal.specs.Classes.{message_classes, classes_in, classed}
 use Rattle.renewal.specs.Current.{current}
-use Rattle.renewal.proofs.RecordClasses.{classes_by, classed_by}
+use Rattle.renewal.proofs.RecordClasses.{classed_by}
 
 -- the normal form of a report has its events
 events_normal : (s : Service) (x : Report) → events_of (normal s x) ≡ events_of x
@@ -44,38 +45,38 @@ events_normal s x = by_table (own_table s x) refl
     by_table true e = ap events_of (normal_is s x true e)
     by_table false e = ap events_of (normal_is s x false e)
 
-module _ (c : List ℕ) (x : Report) (s : Service) (set expiry : ℕ) (sized : length x.items.places ≡ limit) (can : can_make x s set expiry ≡ true) (small : set < 2 ^ 64) (early : expiry < 0x1_0000_0000) where
+module _ (c : List ℕ) (k : Kept) (set : ℕ) (sized : length k.report.items.places ≡ limit) (can : can_make k set ≡ true) (small : set < 2 ^ 64) (early : k.expiry.0 < 0x1_0000_0000) where
   abbrev made : List ℕ
-  made = record_of x s set expiry
+  made = record_of k set
 
   used : byte_at made 0 ≡ 0 → ⊥
-  used z = omega (arith, used_back x s set expiry)
+  used z = omega (arith, used_back k set)
 
-  made_message : message_of made ≡ gives (normal s x)
+  made_message : message_of made ≡ Ok (normal k.service k.report)
   unfolding can_make
   made_message =
-      let few = groups_range made (made_fits x s set expiry can small early) used in
+      let few = groups_range made (made_fits k set can small early) used in
       let fit : groups_fit made ≡ true = ap₂ (λ (a b : Bool). a && b) (le-leb 1 (groups_in made) few.0) (le-leb (groups_in made) 5 few.1) in
-      message_by made true (one_record_lem groups_fit made (length_made x s set expiry) ∙ fit) ∙ reads_back x s set expiry sized (and_right (marks_fit s set expiry) (report_fits x) can)
+      message_by made true (one_record_lem groups_fit made (length_made k set) ∙ fit) ∙ reads_back k set sized (and_right (marks_fit k set) (report_fits k.report) can)
 
-  pub made_classes : classes_in c made ≡ classes_of c x
-  unfolding classes_of
-  made_classes = sym (classes_by c made (gives (normal s x)) made_message) ∙ ap (event_classes c) (events_normal s x)
+  pub made_classes : classes_in c made ≡ classes_of c k.report
+  unfolding classes_of classes_in
+  made_classes = ap (message_classes c) made_message ∙ ap (event_classes c) (events_normal k.service k.report)
 
-  pub made_classed : classed c made ≡ has_class (entry_at c x.head.event)
+  pub made_classed : classed c made ≡ has_class (entry_at c k.report.head.event)
   made_classed =
       classed_by c made false _ (ne_eqb (byte_at made 0) 0 used) refl
-      ∙ ap₂ (λ (h : Head) (b : Bool). has_class (entry_at c h.event) && b) (head_back x s set expiry) (ap given made_message)
-      ∙ and-true (has_class (entry_at c x.head.event))
+      ∙ ap₂ (λ (h : Head) (b : Bool). has_class (entry_at c h.event) && b) (head_back k set) (ap is_ok made_message)
+      ∙ and-true (has_class (entry_at c k.report.head.event))
 
 -- a record that is stored with the set of its report's classes
-pub made_current : (c : List ℕ) (x : Report) (s : Service) (expiry : ℕ) → length x.items.places ≡ limit → can_make x s (set_of (classes_of c x)) expiry ≡ true → expiry < 0x1_0000_0000 → current c (record_of x s (set_of (classes_of c x)) expiry) ≡ true
+pub made_current : (c : List ℕ) (k : Kept) → length k.report.items.places ≡ limit → can_make k (set_of (classes_of c k.report)) ≡ true → k.expiry.0 < 0x1_0000_0000 → current c (record_of k (set_of (classes_of c k.report))) ≡ true
 unfolding current
-made_current c x s expiry sized can early =
-    let set = set_of (classes_of c x) in
-    let small = set_small c x in
-    let same : set_in (record_of x s set expiry) ≡ set_of (classes_in c (record_of x s set expiry)) = set_back x s set expiry small ∙ sym (ap set_of (made_classes c x s set expiry sized can small early)) in
-    ap₂ (λ (a b : Bool). a || b) (ne_eqb _ 0 (used c x s set expiry sized can small early)) (eq-eqb _ _ same)
+made_current c k sized can early =
+    let set = set_of (classes_of c k.report) in
+    let small = set_small c k.report in
+    let same : set_in (record_of k set) ≡ set_of (classes_in c (record_of k set)) = set_back k set small ∙ sym (ap set_of (made_classes c k set sized can small early)) in
+    ap₂ (λ (a b : Bool). a || b) (ne_eqb _ 0 (used c k set sized can small early)) (eq-eqb _ _ same)
 
 -- a free record asks for none
 pub free_classed : (c r : List ℕ) → is_free r ≡ true → classed c r ≡ true

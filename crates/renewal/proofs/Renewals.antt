@@ -13,7 +13,7 @@ use Rattle.lent.specs.Catalogue.{catalogue_fits}
 use Rattle.table.specs.Records.{over}
 use Rattle.table.specs.Effect.{used_in}
 use Rattle.table.proofs.Sweeps.{Keeps}
-use Rattle.renewal.specs.declared.Answer.TheVariants.{Renewed, Refused}
+use Rattle.std.specs.Prelude.{Ok}
 use Rattle.renewal.specs.Classes.{classes_in, all_classed}
 use Rattle.renewal.specs.Renewal.{renewed, renew_fits, renew_answer, renew_table}
 
@@ -39,11 +39,6 @@ pub renewed-keeps : (c : List ℕ) → Keeps (renewed c)
 renewed-keeps c r long = renewed-either c r (λ x. length x ≡ record_size) (λ e. long) (λ e. length-put (set_of (classes_in c r)) r long)
 
 module _ (t c : List ℕ) where
-  -- by what is tested
-  pub fits_by : (x y : Bool) → table_fits t ≡ x → catalogue_fits c ≡ y → renew_fits t c ≡ x && (y && all_classed c t)
-  unfolding renew_fits
-  fits_by x y e f = λ i. e i && (f i && all_classed c t)
-
   pub fits_table : renew_fits t c ≡ true → table_fits t ≡ true
   unfolding renew_fits
   fits_table h = and_left (table_fits t) (catalogue_fits c && all_classed c t) h
@@ -56,10 +51,10 @@ module _ (t c : List ℕ) where
   unfolding renew_fits
   fits-classed h = and_right (catalogue_fits c) (all_classed c t) (and_right (table_fits t) (catalogue_fits c && all_classed c t) h)
 
-  pub refused_renewal : renew_fits t c ≡ false → (Refused 10 ≡ renew_answer t c) × (t ≡ renew_table t c)
-  unfolding renew_answer renew_table
-  refused_renewal e = (sym (passed_over _ _ _ e), sym (passed_over _ _ _ e))
+  pub refused_renewal : renew_fits t c ≡ false → renew_table t c ≡ t
+  unfolding renew_table
+  refused_renewal e = passed_over _ _ _ e
 
-  pub accepted_renewal : renew_fits t c ≡ true → (Renewed (used_in t) ≡ renew_answer t c) × (over (renewed c) t ≡ renew_table t c)
+  pub accepted_renewal : renew_fits t c ≡ true → (renew_answer t c ≡ Ok (used_in t)) × (renew_table t c ≡ over (renewed c) t)
   unfolding renew_answer renew_table
-  accepted_renewal e = (sym (chosen _ _ _ e), sym (chosen _ _ _ e))
+  accepted_renewal e = (chosen _ _ _ e, chosen _ _ _ e)

@@ -10,13 +10,15 @@ use lib.Dec.{eqb, leb, ltb}
 use borrow.Author.Tests.{eqb-true, eq-eqb, ltb-true}
 use Rattle.bits.specs.Bits.{all_zero}
 use Rattle.bits.specs.Fields.{flat}
-use Rattle.bits.specs.Outcome.{gives, refused, mapped, refused_as, given}
+use Rattle.std.specs.Prelude.{Ok, Err, is_ok}
+use Rattle.bits.specs.Outcome.{mapped, refused_as}
 use Rattle.bits.proofs.Choice.{and_left, and_right}
 use Rattle.content.specs.Items as content
 use Rattle.content.specs.Content.{content}
 use Rattle.content.specs.Packing.{group_bits}
 use Rattle.report.specs.Report.{single_report, multi_report}
-use Rattle.report.specs.declared.Refusal.TheVariants.{Plain}
+use Rattle.refusal.specs.declared.Refusal.TheVariants.{Malformed}
+use Rattle.report.specs.declared.Unreadable.TheVariants.{Refused}
 use Rattle.report.specs.Read.{Reading, placed, read_items}
 use Rattle.record.specs.Layout.{record_size, byte_at, is_free, groups_in, head_in, real_in, duration_in, diversion_in, event_in, expiry_in, content_in, four_at, four_bytes, eight_at, eight_bytes, set_at, set_in, with_set}
 use Rattle.record.specs.Classes.{set_of, set_fits}
@@ -184,22 +186,22 @@ module _ (r : List ℕ) (long : length r ≡ record_size) where
 
 -- the first event of a record's message is the record's
 told : ℕ → Reading → ℕ
-told event (gives x) = x.head.event
-told event (refused u) = event
+told event (Ok x) = x.head.event
+told event (Err u) = event
 
 event_told : (r : List ℕ) → told (event_in r) (message_of r) ≡ event_in r
 unfolding told message_of message_in read_items
 event_told r = by_groups (one_record groups_fit r)
   where
     by_outcome : (o : content.Reading) → told (event_in r) (refused_as (placed (content_bits r)) (mapped (multi_report (head_in r) (real_in r)) o)) ≡ event_in r
-    by_outcome (gives its) = refl
-    by_outcome (refused u) = refl
+    by_outcome (Ok its) = refl
+    by_outcome (Err u) = refl
 
-    by_single : (b : Bool) → told (event_in r) (cond b (gives (with_real (real_in r) (single_report (duration_in r) (diversion_in r) (head_in r)))) (read_items (head_in r) (real_in r) (content_bits r) (take (content_bits r) (flat 8 (content_in r))))) ≡ event_in r
+    by_single : (b : Bool) → told (event_in r) (cond b (Ok (with_real (real_in r) (single_report (duration_in r) (diversion_in r) (head_in r)))) (read_items (head_in r) (real_in r) (content_bits r) (take (content_bits r) (flat 8 (content_in r))))) ≡ event_in r
     by_single true = refl
     by_single false = by_outcome (content (take (content_bits r) (flat 8 (content_in r))))
 
-    by_groups : (b : Bool) → told (event_in r) (cond b (message_in r) (refused (Plain 10))) ≡ event_in r
+    by_groups : (b : Bool) → told (event_in r) (cond b (message_in r) (Err (Refused Malformed))) ≡ event_in r
     by_groups true = by_single (eqb (groups_in r) 1)
     by_groups false = refl
 
@@ -210,18 +212,18 @@ module _ (c r : List ℕ) where
   classes_small = by_message (message_of r)
     where
       by_message : (m : Reading) → set_of (message_classes c m) < 2 ^ 64
-      by_message (gives x) = set_small c x
-      by_message (refused u) = omega arith
+      by_message (Ok x) = set_small c x
+      by_message (Err u) = omega arith
 
   classes-fit : catalogue_fits c ≡ true → is_free r ≡ false → classed c r ≡ true → set_fits (set_of (classes_in c r)) ≡ true
   unfolding classes_in classed told
   classes-fit fits used h =
-      let both = sym (ap (λ (b : Bool). b || given (message_of r) && has_class (entry_at c (event_in r))) used) ∙ h in
-      by_message (message_of r) (event_told r) (and_left (given (message_of r)) (has_class (entry_at c (event_in r))) both) (and_right (given (message_of r)) (has_class (entry_at c (event_in r))) both)
+      let both = sym (ap (λ (b : Bool). b || is_ok (message_of r) && has_class (entry_at c (event_in r))) used) ∙ h in
+      by_message (message_of r) (event_told r) (and_left (is_ok (message_of r)) (has_class (entry_at c (event_in r))) both) (and_right (is_ok (message_of r)) (has_class (entry_at c (event_in r))) both)
     where
-      by_message : (m : Reading) → told (event_in r) m ≡ event_in r → given m ≡ true → has_class (entry_at c (event_in r)) ≡ true → set_fits (set_of (message_classes c m)) ≡ true
-      by_message (gives x) e g has = set-fits c x fits (ap (λ (n : ℕ). has_class (entry_at c n)) e ∙ has)
-      by_message (refused u) e g has = clash refl (sym g)
+      by_message : (m : Reading) → told (event_in r) m ≡ event_in r → is_ok m ≡ true → has_class (entry_at c (event_in r)) ≡ true → set_fits (set_of (message_classes c m)) ≡ true
+      by_message (Ok x) e g has = set-fits c x fits (ap (λ (n : ℕ). has_class (entry_at c n)) e ∙ has)
+      by_message (Err u) e g has = clash refl (sym g)
 
   module _ (long : length r ≡ record_size) where
     abbrev set : ℕ
@@ -244,7 +246,7 @@ module _ (c r : List ℕ) where
     unfolding classed
     renewed-classed h =
         renewed-either c r (λ x. classed c x ≡ true) (λ free. h) (λ used.
-        (λ i. free_put r long set i || given (message-put r long set i) && has_class (entry_at c (event-put r long set i))) ∙ h)
+        (λ i. free_put r long set i || is_ok (message-put r long set i) && has_class (entry_at c (event-put r long set i))) ∙ h)
 
     pub renewed-fits : well_formed r ≡ true → catalogue_fits c ≡ true → classed c r ≡ true → well_formed (renewed c r) ≡ true
     renewed-fits fits catalogue h = renewed-either c r (λ x. well_formed x ≡ true) (λ free. fits) (λ used. put-fits r long fits used set classes_small (classes-fit catalogue used h))

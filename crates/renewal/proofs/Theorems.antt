@@ -24,17 +24,19 @@ use Rattle.record.proofs.ClassSets.{sets_share}
 use Rattle.record.proofs.StoredSets.{set-put}
 use Rattle.lent.specs.Records.{chunks, records, all_of}
 use Rattle.lent.specs.Table.{table_fits}
-use Rattle.lent.specs.Catalogue.{catalogue_fits}
+use Rattle.lent.specs.declared.catalogue.Kind.TheVariants.{Ordinary}
+use Rattle.lent.specs.Catalogue.{classed as classed-kind, catalogue_fits}
 use Rattle.lent.proofs.Lents.{table_whole, table_records}
 use Rattle.classes.specs.Classes.{classes_of, set_for}
 use Rattle.classes.specs.Keys.{key_of}
 use Rattle.classes.proofs.ReportSets.{set_small}
 use Rattle.checks.specs.declared.Arrival.{Arrival}
-use Rattle.checks.specs.Events.{kind_for, expiry_for}
+use Rattle.checks.specs.Events.{kind_for}
 use Rattle.checks.proofs.Checked.{Checked, ends}
 use Rattle.table.specs.Effect.{used_in}
 use Rattle.table.specs.declared.WhenFull.{WhenFull}
-use Rattle.table.specs.Take.{record_for, take_refusal}
+use Rattle.table.specs.Take.{kept_of, record_for}
+use Rattle.table.proofs.Takes.{Accepted}
 use Rattle.table.specs.Records.{over}
 use Rattle.table.proofs.Counts.{all-within, all_both, all_map}
 use Rattle.table.proofs.Sweeps.{length_over, records-over}
@@ -42,17 +44,17 @@ use Rattle.table.proofs.Storing.{joined-records}
 use Rattle.table.proofs.Storable.{can_make_lem}
 use Rattle.table.proofs.Accepted.{ok}
 use Rattle.table.proofs.Theorems.{record_no, fits_again, each_keeps, each-keeps-expiry}
-use Rattle.renewal.specs.declared.Answer.TheVariants.{Renewed}
+use Rattle.std.specs.Prelude.{Ok}
 use Rattle.renewal.specs.Classes.{classes_in, classed, all_classed}
 use Rattle.renewal.specs.Renewal.{renewed, renew_fits, renew_answer, renew_table}
 use Rattle.renewal.specs.Current.{current, all_current, Made, starts, brings, takes, expires, renews, matching_by_events}
-use Rattle.renewal.proofs.Renewals.{renewed-either, renewed-keeps, fits_by, fits_table, fits_catalogue, fits-classed, refused_renewal, accepted_renewal}
+use Rattle.renewal.proofs.Renewals.{renewed-either, renewed-keeps, fits_table, fits_catalogue, fits-classed, refused_renewal, accepted_renewal}
 use Rattle.renewal.proofs.MadeClasses.{made_classed, made_current, free_classed, free_current}
 use Rattle.renewal.proofs.RenewedRecords.{renewed-current, renewed-classed, renewed-fits, current_stays}
 
 -- the records of a table have their size
 records-sized : (t : List ℕ) → all_of is_record (records t) ≡ true
-unfolding records chunks all_of
+unfolding records chunks
 records-sized t = sized (length t / record_size) t (omega arith)
   where
     sized : (n : ℕ) (u : List ℕ) → n * record_size ≤ length u → all_of is_record (chunks n u) ≡ true
@@ -61,7 +63,6 @@ records-sized t = sized (length t / record_size) t (omega arith)
 
 -- a test holds of record i if it holds of all and of a free one
 each_one : (p : List ℕ → Bool) (rs : List (List ℕ)) (i : ℕ) → all_of p rs ≡ true → p free_record ≡ true → p (get_or rs i free_record) ≡ true
-unfolding all_of
 each_one p [] i h free = free
 each_one p (r ∷ rs) zero h free = and_left (p r) (all_of p rs) h
 each_one p (r ∷ rs) (suc i) h free = each_one p rs i (and_right (p r) (all_of p rs) h) free
@@ -79,7 +80,7 @@ module _ (t c : List ℕ) (fits : renew_fits t c ≡ true) where
 
   -- every record is renewed
   pub records-renewed : records (renew_table t c) ≡ map (renewed c) (records t)
-  records-renewed = ap records (sym (accepted_renewal t c fits).1) ∙ records-over (renewed c) (renewed-keeps c) t whole
+  records-renewed = ap records (accepted_renewal t c fits).1 ∙ records-over (renewed c) (renewed-keeps c) t whole
 
   -- what a test says of records of their size that are well-formed and have classes, of those renewed
   each-renewed : (p : List ℕ → Bool) → ((r : List ℕ) → length r ≡ record_size → well_formed r ≡ true → classed c r ≡ true → p (renewed c r) ≡ true) → all_of p (records (renew_table t c)) ≡ true
@@ -101,12 +102,11 @@ module _ (t c : List ℕ) (fits : renew_fits t c ≡ true) where
   -- and the table is well-formed
   pub renewal_fits : table_fits (renew_table t c) ≡ true
   renewal_fits =
-      fits_again (renew_table t c) t (ap length (sym (accepted_renewal t c fits).1) ∙ length_over (renewed c) (renewed-keeps c) t whole)
+      fits_again (renew_table t c) t (ap length (accepted_renewal t c fits).1 ∙ length_over (renewed c) (renewed-keeps c) t whole)
       (each-renewed well_formed (λ r long fit has. renewed-fits c r long fit (fits_catalogue t c fits) has)) (fits_table t c fits)
 
 -- a well-formed table whose sets are current is as it was after a renewal
 same-records : (c : List ℕ) (rs : List (List ℕ)) → all_of (λ r. is_record r && (well_formed r && current c r)) rs ≡ true → map (renewed c) rs ≡ rs
-unfolding all_of
 same-records c [] h = refl
 same-records c (r ∷ rs) h =
     let p = is_record r && (well_formed r && current c r) in
@@ -123,21 +123,21 @@ renewal_same t c h = by_fits (renew_fits t c) refl
     by_fits : (b : Bool) → renew_fits t c ≡ b → renew_table t c ≡ t
     by_fits true fits =
         let tests = all_both is_record (λ r. well_formed r && current c r) (records t) (records-sized t) (all_both well_formed (current c) (records t) (table_records t (fits_table t c fits)) h) in
-        sym (accepted_renewal t c fits).1 ∙ ap joined (same-records c (records t) tests) ∙ joined-records t (whole t c fits)
-    by_fits false refused = sym (refused_renewal t c refused).1
+        (accepted_renewal t c fits).1 ∙ ap joined (same-records c (records t) tests) ∙ joined-records t (whole t c fits)
+    by_fits false refused = refused_renewal t c refused
 
 -- A report's record that a take stores.
-module _ (c t lives : List ℕ) (last : ℕ) (a : Arrival) (lto : ℤ) (full : WhenFull) (sized : length a.report.items.places ≡ limit) (fine : take_refusal t c lives last a lto full ≡ 0) (is-1 : kind_for c a.report ≡ 1) where
+module _ (c t lives : List ℕ) (last : ℕ) (a : Arrival) (lto : ℤ) (full : WhenFull) (sized : length a.report.items.places ≡ limit) (fine : Accepted t c lives last a lto full) (ordinary : kind_for c a.report ≡ Ordinary) where
   checked : Checked t c lives last a lto
   checked = ok t c lives last a lto full fine
 
   stored-classed : classed c (record_for c lives a lto) ≡ true
   stored-classed =
-      made_classed c a.report a.service (set_for c a.report) (expiry_for c lives a lto) sized (can_make_lem t c lives last a lto checked is-1) (set_small c a.report) (ends t c lives last a lto checked).1
-      ∙ ap (λ (b : Bool). b || eqb (kind_for c a.report) 2) (eq-eqb (kind_for c a.report) 1 is-1)
+      made_classed c (kept_of c lives a lto) (set_for c a.report) sized (can_make_lem t c lives last a lto checked ordinary) (set_small c a.report) (ends t c lives last a lto checked).1
+      ∙ ap classed-kind ordinary
 
   stored-current : current c (record_for c lives a lto) ≡ true
-  stored-current = made_current c a.report a.service (expiry_for c lives a lto) sized (can_make_lem t c lives last a lto checked is-1) (ends t c lives last a lto checked).1
+  stored-current = made_current c (kept_of c lives a lto) sized (can_make_lem t c lives last a lto checked ordinary) (ends t c lives last a lto checked).1
 
 -- A current record matches by its set if it does by its events.
 module _ (c r : List ℕ) where
@@ -186,8 +186,9 @@ module _ (c : List ℕ) where
     pub changes_nothing : renew_table t c ≡ t
     changes_nothing = renewal_same t c (always t made).1
 
-    pub not-refused : table_fits t ≡ true → catalogue_fits c ≡ true → renew_answer t c ≡ Renewed (used_in t)
-    not-refused table catalogue = sym (accepted_renewal t c (fits_by t c true true table catalogue ∙ (always t made).0)).0
+    pub not-refused : table_fits t ≡ true → catalogue_fits c ≡ true → renew_answer t c ≡ Ok (used_in t)
+    unfolding renew_fits
+    not-refused table catalogue = (accepted_renewal t c (λ i. table i && (catalogue i && (always t made).0 i))).0
 
     -- matching by the sets is R-4's, by the events
     pub by_events : (s : Service) (x : Report) (i : ℕ) → matching (key_of c s x) (record_no t i) ≡ matching_by_events c s x (record_no t i)

@@ -1,4 +1,3 @@
 pub mod Classes
 pub mod Renewal
-pub mod Answers
 pub mod Current

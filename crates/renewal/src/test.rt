@@ -12,20 +12,16 @@ use record_report::read::reads;
 pub(crate) fn all_classed(t: &[u8], catalogue: &[u16]) -> bool
     ensures { result ≡ all_classed catalogue.now t.now }
 {
-    let n = t.len() / Record::SIZE;
-    let mut i = 0;
-    while i < n {
-        let a = i * Record::SIZE;
-        let e = a + Record::SIZE;
-        if !is_classed(&t[a..e], catalogue) {
+    for record in t.chunks_exact(Record::SIZE) {
+        if !is_classed(record, catalogue) {
             return false;
         }
-        i += 1;
     }
     true
 }
 
 // Whether the bytes are one record's, and it is free, or has content that reads as items and a first event with an update class.
+#[tactic(auto, using(record::proofs::AsRecord::as_it_is), unfolding(crate::specs::Classes::classed, record::specs::Gone::one_record))]
 fn is_classed(r: &[u8], catalogue: &[u16]) -> bool
     ensures { result ≡ one_record (classed catalogue.now) r.now }
 {
@@ -36,8 +32,5 @@ fn is_classed(r: &[u8], catalogue: &[u16]) -> bool
         return true;
     }
     let entry = Entry::of_event(catalogue, event(r));
-    if !entry.has_class() {
-        return false;
-    }
-    reads(r)
+    entry.has_class() && reads(r)
 }

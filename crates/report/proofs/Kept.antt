@@ -7,12 +7,16 @@ use native.Mathlib.Nat.{suc-mul, zero-mul, add_comm, suc-add, zero-add}
 use native.Mathlib.Omega.{arith}
 use lib.ListN.{length, take, drop, length-append, length-replicate, length-drop}
 use lib.Seq.{drop-drop, drop-length, take_at, drop_at, take-take, take-append-add}
-use lib.Dec.{leb, eqb}
+use lib.Dec.{eqb}
 use borrow.Author.Tests.{eqb-true, le-leb, lt-leb}
 use borrow.Rule.Slice.PartMut.{put_mid, post_of}
+use Rattle.std.specs.Prelude.{Result, Ok, Err}
+use Rattle.refusal.specs.declared.Refusal.{Refusal}
+use Rattle.refusal.specs.declared.Refusal.TheVariants.{Unfit, SmallBuffer}
 use Rattle.bits.specs.Bits.{bits, val}
 use Rattle.bits.specs.Fields.{words, fits}
-use Rattle.bits.proofs.Choice.{and_left, and_right, chosen, passed_over}
+use Rattle.bits.proofs.Outcomes.{refused-gives-none}
+use Rattle.bits.proofs.Choice.{and_left, and_right}
 use Rattle.bits.proofs.Value.{length-bits, take-bits}
 use Rattle.bits.proofs.Stretch.{drop-take}
 use Rattle.bits.proofs.Fields.{length-words}
@@ -24,16 +28,15 @@ use Rattle.content.specs.declared.pack.Packed.{Packed}
 use Rattle.content.specs.Halves.{bits_of, starting_with}
 use Rattle.content.specs.Packing.{zeros, longest, packing, all_fit, packable, last_zero, writable}
 use Rattle.content.specs.Stored.{listed, well_placed}
-use Rattle.content.specs.Answers.{packed, packed_of, bits_packed}
+use Rattle.content.specs.Answers.{packed, packed_of}
 use Rattle.content.proofs.Halves.{bits_of-content_of}
 use Rattle.content.proofs.Zeros.{take-zeros}
 use Rattle.content.proofs.WrittenIsRead.{packable_short, writable-packable}
 use Rattle.report.specs.declared.Report.{Report}
 use Rattle.report.specs.declared.Form.{Form}
 use Rattle.report.specs.declared.Form.TheVariants.{Single, Multi}
-use Rattle.report.specs.declared.Packing.TheVariants.{Groups, Refused}
 use Rattle.report.specs.Fits.{single_fits, items_fit, fits_by, real_fits, report_fits}
-use Rattle.report.specs.Record.{content_bytes, bytes_of, groups_for, groups_of, pack_report, bytes_after}
+use Rattle.report.specs.Record.{content_bytes, bytes_of, groups_of, pack_report, bytes_after}
 use Rattle.report.proofs.Multi.{items-fit, fit-writable, fit-packed}
 
 -- n words stand in the first n * w bits
@@ -116,11 +119,16 @@ module _ (r : Report) (fit : report_fits r ≡ true) where
   pub kept_short : length (packing (listed r.items)) ≤ longest
   kept_short = packable_short (listed r.items) (writable-packable (listed r.items) (fit-writable r.items (report-items r fit)))
 
-  pub kept-groups : groups_for r.form (bits_packed (packed_of r.items).answer) ≡ groups_of r
-  unfolding groups_of bits_packed packed
-  kept-groups = ap (λ (p : Packed). groups_for r.form (bits_packed p.answer)) (fit-packed r.items (report-items r fit))
+  -- its items are packed
+  pub is_packed : (refusal : Refusal) → Err refusal ≡ packed_of r.items → ⊥
+  is_packed refusal e = refused-gives-none {a = packed (listed r.items)} (e ∙ fit-packed r.items (report-items r fit))
 
-  pub kept-bytes : words 8 content_bytes (bits_of (packed_of r.items).content) ≡ bytes_of (listed r.items)
+  pub kept-packed : (p : Packed) → Ok p ≡ packed_of r.items → p ≡ packed (listed r.items)
+  kept-packed p e =
+      let both : ◌≡◌ {A = Result Packed Refusal} (Ok p) (Ok (packed (listed r.items))) = e ∙ fit-packed r.items (report-items r fit) in
+      cc
+
+  pub kept-bytes : words 8 content_bytes (bits_of (packed (listed r.items)).content) ≡ bytes_of (listed r.items)
   unfolding bytes_of packed starting_with
   kept-bytes =
       let l = packing (listed r.items) in
@@ -129,8 +137,7 @@ module _ (r : Report) (fit : report_fits r ≡ true) where
       let size : n + (128 - n) ≡ 128 = omega arith in
       let cut : longest ≡ n + (longest - n) = omega arith in
       let wide : length (l ++ zeros (128 - n)) ≡ 128 = length-append l (zeros (128 - n)) ∙ ap (λ (m : ℕ). n + m) (length-replicate (128 - n) false) ∙ size in
-      ap (λ (p : Packed). words 8 content_bytes (bits_of p.content)) (fit-packed r.items (report-items r fit))
-      ∙ ap (words 8 content_bytes) (bits_of-content_of (l ++ zeros (128 - n)) wide)
+      ap (words 8 content_bytes) (bits_of-content_of (l ++ zeros (128 - n)) wide)
       ∙ sym (words_take 8 content_bytes (l ++ zeros (128 - n)))
       ∙ ap (words 8 content_bytes)
       (ap (λ (m : ℕ). take m (l ++ zeros (128 - n))) cut
@@ -139,18 +146,14 @@ module _ (r : Report) (fit : report_fits r ≡ true) where
 
 -- it is packed exactly if it fits and there is room
 module _ (r : Report) (out : List ℕ) where
-  pub packed-whole : report_fits r ≡ true → 14 ≤ length out → (Groups (groups_of r) ≡ pack_report r (length out)) × (bytes_of (listed r.items) ++ drop 14 out ≡ bytes_after r out)
+  pub packed-whole : report_fits r ≡ true → 14 ≤ length out → (Ok (groups_of r) ≡ pack_report r (length out)) × (bytes_of (listed r.items) ++ drop 14 out ≡ bytes_after r out)
   unfolding pack_report bytes_after
-  packed-whole f h =
-      let room = le-leb 14 (length out) h in
-      (sym (chosen _ _ _ f ∙ chosen _ _ _ room), sym (chosen _ _ _ (ap₂ (λ (a b : Bool). a && b) f room)))
+  packed-whole f h = let room = le-leb 14 (length out) h in (rw (f, room), rw (f, room))
 
-  pub no_room-kept : report_fits r ≡ true → length out < 14 → (Refused 15 ≡ pack_report r (length out)) × (out ≡ bytes_after r out)
+  pub no_room-kept : report_fits r ≡ true → length out < 14 → (Err SmallBuffer ≡ pack_report r (length out)) × (out ≡ bytes_after r out)
   unfolding pack_report bytes_after
-  no_room-kept f h =
-      let room = lt-leb 14 (length out) h in
-      (sym (chosen _ _ _ f ∙ passed_over _ _ _ room), sym (passed_over _ _ _ (ap₂ (λ (a b : Bool). a && b) f room)))
+  no_room-kept f h = let room = lt-leb 14 (length out) h in (rw (f, room), rw (f, room))
 
-  pub unfit-kept : report_fits r ≡ false → (Refused 9 ≡ pack_report r (length out)) × (out ≡ bytes_after r out)
+  pub unfit-kept : report_fits r ≡ false → (Err Unfit ≡ pack_report r (length out)) × (out ≡ bytes_after r out)
   unfolding pack_report bytes_after
-  unfit-kept f = (sym (passed_over _ _ _ f), sym (passed_over _ _ _ (ap (λ (a : Bool). a && leb 14 (length out)) f)))
+  unfit-kept f = (rw f, rw f)

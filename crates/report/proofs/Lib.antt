@@ -7,6 +7,5 @@ pub mod Writable
 pub mod Tests
 pub mod Kept
 pub mod OwnParts
-pub mod Outcomes
 pub mod Broken
 pub mod Numbers

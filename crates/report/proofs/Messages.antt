@@ -7,14 +7,15 @@ use native.Mathlib.Omega.{arith}
 use lib.ListN.{take, length-take}
 use lib.Dec.{ltb, eqb}
 use borrow.Author.Tests.{eqb-true, ltb-true}
-use Rattle.bits.specs.Outcome.{gives, refused}
+use Rattle.std.specs.Prelude.{Result, Ok, Err}
+use Rattle.bits.specs.Outcome.{mapped}
+use Rattle.bits.proofs.Outcomes.{refused-gives-none}
 use Rattle.bits.proofs.Choice.{and_left, and_right, chosen, passed_over}
 use Rattle.content.specs.declared.item.Item.{Item}
 use Rattle.content.specs.declared.items.Items.{Items}
-use Rattle.content.specs.declared.read.Reading as struct
-use Rattle.content.specs.declared.read.ReadAnswer.TheVariants as answer
+use Rattle.content.specs.declared.rest.Broken.{Broken}
 use Rattle.content.specs.declared.read.Unread.{Unread}
-use Rattle.content.specs.declared.read.Unread.TheVariants.{Unfit}
+use Rattle.content.specs.declared.read.Unread.TheVariants as unread
 use Rattle.content.specs.declared.content.Content.{Content}
 use Rattle.content.specs.Widths.{widths, width, sublabelled}
 use Rattle.content.specs.Items.{Reading}
@@ -22,9 +23,8 @@ use Rattle.content.specs.Content.{content}
 use Rattle.content.specs.Packing.{item_fits, all_fit, longest}
 use Rattle.content.specs.Halves.{bits_of}
 use Rattle.content.specs.Stored.{limit, filled, listed}
-use Rattle.content.specs.Answers.{reading_of}
 use Rattle.content.proofs.Halves.{length-bits_of}
-use Rattle.content.proofs.Broken.{content-unfit, breaks}
+use Rattle.content.proofs.Broken.{content-broken, breaks}
 use Rattle.content.proofs.AtMost28.{at_most_28}
 use Rattle.content.proofs.ReadIsWritten.{content_short, content_holds, items-writable}
 use Rattle.content.proofs.WrittenIsRead.{packable-fits, writable-packable}
@@ -34,41 +34,35 @@ use Rattle.report.specs.Report.{first_where, duration_of}
 -- content that was read, and the items of the answer
 pub record ReadItems (l : List Bool) (s : Items) : Type 0 where
   pub its : List Item
-  pub reading : content l ≡ gives its
+  pub reading : content l ≡ Ok its
   pub stored : s ≡ filled its
 
-pub read-items : (l : List Bool) (r : struct.Reading) → r ≡ reading_of (content l) → r.answer ≡ answer.Read → ReadItems l r.items
-unfolding reading_of
-read-items l r e a = by_reading (content l) refl
+pub read-items : (l : List Bool) (s : Items) → Ok s ≡ mapped filled (content l) → ReadItems l s
+read-items l s e = by_reading (content l) refl
   where
-    by_reading : (x : Reading) → content l ≡ x → ReadItems l r.items
-    by_reading (gives its) h = record { its = its; reading = h; stored = ap (λ (y : struct.Reading). y.items) (e ∙ ap reading_of h) }
-    by_reading (refused u) h =
-        let b : answer.Refused u ≡ answer.Read = sym (ap (λ (y : struct.Reading). y.answer) (e ∙ ap reading_of h)) ∙ a in
-        let z : ◌≡◌ {A = ℕ} 0 1 = cc in
-        absurd (omega arith)
+    by_reading : (x : Reading) → content l ≡ x → ReadItems l s
+    by_reading (Ok its) h =
+        let both : ◌≡◌ {A = Result Items Unread} (Ok s) (Ok (filled its)) = e ∙ ap (mapped filled) h in
+        record { its = its; reading = h; stored = cc }
+    by_reading (Err u) h = absurd (refused-gives-none (sym (e ∙ ap (mapped filled) h)))
 
 -- content that was refused is refused as the answer says
-pub read-refused : (l : List Bool) (r : struct.Reading) (u : Unread) → r ≡ reading_of (content l) → r.answer ≡ answer.Refused u → content l ≡ refused u
-unfolding reading_of
-read-refused l r u e a = by_reading (content l) refl
+pub read-refused : (l : List Bool) (u : Unread) → Err u ≡ mapped filled (content l) → content l ≡ Err u
+read-refused l u e = by_reading (content l) refl
   where
-    by_reading : (x : Reading) → content l ≡ x → content l ≡ refused u
-    by_reading (gives its) h =
-        let b : answer.Read ≡ answer.Refused u = sym (ap (λ (y : struct.Reading). y.answer) (e ∙ ap reading_of h)) ∙ a in
-        let z : ◌≡◌ {A = ℕ} 0 1 = cc in
-        absurd (omega arith)
-    by_reading (refused v) h =
-        let b : answer.Refused v ≡ answer.Refused u = sym (ap (λ (y : struct.Reading). y.answer) (e ∙ ap reading_of h)) ∙ a in
-        h ∙ ap refused (cc)
+    by_reading : (x : Reading) → content l ≡ x → content l ≡ Err u
+    by_reading (Ok its) h = absurd (refused-gives-none {a = filled its} (e ∙ ap (mapped filled) h))
+    by_reading (Err v) h =
+        let both : ◌≡◌ {A = Result Items Unread} (Err u) (Err v) = e ∙ ap (mapped filled) h in
+        h ∙ ap Err (cc)
 
 -- the bits left where an item begins are among those read
-pub left_within : (c : Content) (size n left : ℕ) → content (take size (bits_of c)) ≡ refused (Unfit n left) → (left ≤ size) × (size ≤ longest)
-left_within c size n left e =
+pub left_within : (c : Content) (size : ℕ) (b : Broken) → content (take size (bits_of c)) ≡ Err (unread.Broken b) → (b.left ≤ size) × (size ≤ longest)
+left_within c size b e =
     let l = take size (bits_of c) in
-    let u = content-unfit l n left e in
-    let b = (breaks l n left).0 u.1 in
-    (omega (arith, b.0, length-take size (bits_of c)), omega (arith, u.0, length-take size (bits_of c), length-bits_of c))
+    let u = content-broken l b e in
+    let k = (breaks l b.refusal b.left).0 u.1 in
+    (omega (arith, k.0, length-take size (bits_of c)), omega (arith, u.0, length-take size (bits_of c), length-bits_of c))
 
 -- the items that are read are at most 28, and in range
 module _ (l : List Bool) (s : Items) (h : ReadItems l s) where

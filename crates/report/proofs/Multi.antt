@@ -1,9 +1,10 @@
 -- What a report that a writer takes has: items that are packed, and a head in range.
 use Prim.Native.Nat.{◌≤◌}
-use mathlib.Core.Path.{◌≡◌, ap}
-use mathlib.Core.Bool.{Bool, true, ◌&&◌}
+use mathlib.Core.Path.{◌≡◌}
+use mathlib.Core.Bool.{true, ◌&&◌}
 use lib.ListN.{length}
 use borrow.Author.Tests.{leb-true}
+use Rattle.std.specs.Prelude.{Ok}
 use Rattle.bits.specs.Fields.{fits}
 use Rattle.bits.proofs.Choice.{and_left, and_right}
 use Rattle.word.specs.Format.{head_part}
@@ -11,7 +12,8 @@ use Rattle.word.specs.Compose.{head_values}
 use Rattle.content.specs.declared.items.Items.{Items}
 use Rattle.content.specs.Packing.{longest, writable}
 use Rattle.content.specs.Stored.{listed, well_placed}
-use Rattle.content.specs.Answers.{packed, packed_if, packed_of}
+use Rattle.content.specs.Answers.{packed, packed_of}
+use Rattle.content.proofs.Prepending.{packed-fit}
 use Rattle.report.specs.declared.Report.{Report}
 use Rattle.report.specs.InterRoad.{content_of}
 use Rattle.report.specs.Fits.{items_fit, content_fits, agrees, multi_fits}
@@ -21,9 +23,9 @@ pub fit-writable : (s : Items) → items_fit s ≡ true → writable (listed s) 
 unfolding items_fit
 fit-writable s h = and_right (well_placed s) (writable (listed s)) h
 
-pub fit-packed : (s : Items) → items_fit s ≡ true → packed_of s ≡ packed (listed s)
-unfolding items_fit packed_of packed_if
-fit-packed s h = ap (λ (b : Bool). packed_if b (listed s)) h
+pub fit-packed : (s : Items) → items_fit s ≡ true → packed_of s ≡ Ok (packed (listed s))
+unfolding items_fit
+fit-packed s h = packed-fit s h
 
 -- the parts of a multi-group report that fits
 module _ (r : Report) (fit : multi_fits r ≡ true) where

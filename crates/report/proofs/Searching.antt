@@ -1,36 +1,31 @@
--- What one place more says in a search over items.
-use Prim.Native.Nat.{ℕ, suc, ◌≤◌, ◌<◌}
-use mathlib.Core.Path.{◌≡◌, ap, ◌∙◌}
-use mathlib.Core.Bool.{Bool, true, false}
-use mathlib.Core.List.{◌∷◌}
-use native.Mathlib.Omega.{arith}
-use lib.ListN.{length, drop, get_or, drop_of_length-le}
-use lib.Seq.{drop-cons, get_or-take, length-take-le}
-use Rattle.bits.proofs.Choice.{chosen, passed_over}
+-- A search over items, as the library has it.
+use Prim.Native.Nat.{ℕ}
+use mathlib.Core.Path.{◌≡◌, refl}
+use mathlib.Core.Bool.{Bool, true, false, cond}
+use mathlib.Core.List.{List, [], ◌∷◌}
+use mir.Val.{bool_byte}
+use Rattle.std.specs.Prelude.{find}
+use Rattle.std.specs.Option.{option_map_or}
+use Rattle.std.specs.List.{list_any}
 use Rattle.content.specs.declared.item.Item.{Item}
-use Rattle.content.specs.declared.items.Items.{Items}
-use Rattle.content.specs.Stored.{no_item, listed}
 use Rattle.report.specs.Report.{first_where}
 
-module _ (test : Item → Bool) (f : Item → ℕ) (s : Items) (inside : s.count ≤ length s.places) where
-  -- place i and what follows it
-  from_place : (i : ℕ) → i < s.count → drop i (listed s) ≡ get_or s.places i no_item ∷ drop (suc i) (listed s)
-  unfolding listed
-  from_place i h =
-      let long = length-take-le s.count s.places inside in
-      drop-cons (listed s) i no_item (omega arith) ∙ ap (λ (x : Item). x ∷ drop (suc i) (listed s)) (get_or-take s.count s.places i no_item h)
+pub first_found : (test : Item → Bool) (f : Item → ℕ) (its : List Item) → option_map_or f (find test its) 0 ≡ first_where test f its
+unfolding first_where
+first_found test f [] = refl
+first_found test f (i ∷ its) = by_test (test i) refl (first_found test f its)
+  where
+    by_test : (b : Bool) → test i ≡ b → option_map_or f (find test its) 0 ≡ first_where test f its
+        → option_map_or f (find test (i ∷ its)) 0 ≡ cond (test i) (f i) (first_where test f its)
+    by_test true e more = rw e refl
+    by_test false e more = rw e more
 
-  pub found_here : (i : ℕ) → i < s.count → test (get_or s.places i no_item) ≡ true → first_where test f (drop i (listed s)) ≡ f (get_or s.places i no_item)
-  unfolding first_where
-  found_here i h t = ap (first_where test f) (from_place i h) ∙ chosen _ _ _ t
-
-  pub not_here : (i : ℕ) → i < s.count → test (get_or s.places i no_item) ≡ false → first_where test f (drop i (listed s)) ≡ first_where test f (drop (suc i) (listed s))
-  unfolding first_where
-  not_here i h t = ap (first_where test f) (from_place i h) ∙ passed_over _ _ _ t
-
-  pub not_found : (i : ℕ) → s.count ≤ i → first_where test f (drop i (listed s)) ≡ 0
-  unfolding first_where listed
-  not_found i h =
-      let long = length-take-le s.count s.places inside in
-      let past : length (listed s) ≤ i = omega arith in
-      ap (first_where test f) (drop_of_length-le (listed s) past)
+pub some_found : (test : Item → Bool) (its : List Item) → bool_byte (list_any test its) ≡ first_where test (λ i. 1) its
+unfolding first_where
+some_found test [] = refl
+some_found test (i ∷ its) = by_test (test i) refl (some_found test its)
+  where
+    by_test : (b : Bool) → test i ≡ b → bool_byte (list_any test its) ≡ first_where test (λ j. 1) its
+        → bool_byte (list_any test (i ∷ its)) ≡ cond (test i) 1 (first_where test (λ j. 1) its)
+    by_test true e more = rw e refl
+    by_test false e more = rw e more

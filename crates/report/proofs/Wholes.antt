@@ -6,8 +6,10 @@ use mathlib.Core.Bool.{Bool, true, false}
 use mathlib.Core.List.{List}
 use lib.ListN.{length, take, drop}
 use lib.Seq.{length-take-le}
+use Rattle.refusal.specs.declared.Refusal.TheVariants.{WrongLength}
 use Rattle.bits.specs.Bits.{val}
-use Rattle.bits.specs.Outcome.{gives, refused, mapped, refused_as, given}
+use Rattle.std.specs.Prelude.{Ok, Err, is_ok}
+use Rattle.bits.specs.Outcome.{mapped, refused_as}
 use Rattle.bits.proofs.Outcomes.{mapped-given, refused_as_given}
 use Rattle.word.specs.declared.Head.{Head}
 use Rattle.content.specs.declared.content.Content.{Content}
@@ -19,7 +21,7 @@ use Rattle.content.specs.Packing.{group_bits}
 use Rattle.content.specs.Halves.{bits_of}
 use Rattle.content.proofs.Halves.{length-bits_of}
 use Rattle.content.proofs.Lengths.{groups_of, content_length-take}
-use Rattle.report.specs.declared.Refusal.TheVariants.{Plain}
+use Rattle.report.specs.declared.Unreadable.TheVariants.{Refused}
 use Rattle.report.specs.declared.Form.TheVariants.{Multi}
 use Rattle.report.specs.InterRoad.{items_at}
 use Rattle.report.specs.Report.{multi_report}
@@ -34,28 +36,28 @@ module _ (h : Head) (real whole : ℕ) (l : List Bool) where
   abbrev from : content.Reading → Reading
   from x = refused_as (placed whole) (mapped (multi_report h real) x)
 
-  pub items-read : (its : List Item) → content l ≡ gives its → read_items h real whole l ≡ gives (multi_report h real its)
+  pub items-read : (its : List Item) → content l ≡ Ok its → read_items h real whole l ≡ Ok (multi_report h real its)
   unfolding read_items
   items-read its e = ap from e
 
-  pub items_refused : (u : Unread) → content l ≡ refused u → read_items h real whole l ≡ refused (placed whole u)
+  pub items_refused : (u : Unread) → content l ≡ Err u → read_items h real whole l ≡ Err (placed whole u)
   unfolding read_items
   items_refused u e = ap from e
 
-  pub items-given : given (read_items h real whole l) ≡ given (content l)
+  pub items-given : is_ok (read_items h real whole l) ≡ is_ok (content l)
   unfolding read_items
   items-given = refused_as_given (placed whole) (mapped (multi_report h real) (content l)) ∙ mapped-given (multi_report h real) (content l)
 
 module _ (h : Head) (l : List Bool) where
   -- by whether there is such a length
   abbrev by : Bool → Reading
-  by b = elim b [ true ↦ read_items h (val (take (items_at Multi h) l)) (length l) (drop (items_at Multi h) l) | false ↦ refused (Plain 1) ]
+  by b = elim b [ true ↦ read_items h (val (take (items_at Multi h) l)) (length l) (drop (items_at Multi h) l) | false ↦ Err (Refused WrongLength) ]
 
   pub whole-read : content_length (length l) ≡ true → read_bits h l ≡ read_items h (val (take (items_at Multi h) l)) (length l) (drop (items_at Multi h) l)
   unfolding read_bits
   whole-read e = ap by e
 
-  pub whole-refused : content_length (length l) ≡ false → read_bits h l ≡ refused (Plain 1)
+  pub whole-refused : content_length (length l) ≡ false → read_bits h l ≡ Err (Refused WrongLength)
   unfolding read_bits
   whole-refused e = ap by e
 
@@ -75,5 +77,5 @@ module _ (h : Head) (c : Content) (size : ℕ) where
       ∙ ap (λ (n : ℕ). read_items h (val (take (items_at Multi h) kept)) n (drop (items_at Multi h) kept)) all
       ∙ sym (whole-read h kept (same_length ∙ e))
 
-  pub kept-refused : content_length size ≡ false → refused (Plain 1) ≡ read_bits h kept
+  pub kept-refused : content_length size ≡ false → Err (Refused WrongLength) ≡ read_bits h kept
   kept-refused e = sym (whole-refused h kept (same_length ∙ e))

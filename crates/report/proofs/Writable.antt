@@ -10,7 +10,7 @@ use lib.Seq.{length-take-le}
 use borrow.Author.Tests.{eq-eqb, le-leb, lt-ltb}
 use Rattle.bits.specs.Bits.{val}
 use Rattle.bits.specs.Fields.{fits}
-use Rattle.bits.specs.Outcome.{gives, refused}
+use Rattle.std.specs.Prelude.{Ok, Err}
 use Rattle.bits.proofs.Choice.{either}
 use Rattle.bits.proofs.Outcomes.{refused-gives-none}
 use Rattle.bits.proofs.Value.{bits-val, val-take_lt}
@@ -39,21 +39,21 @@ use Rattle.report.proofs.Wholes.{length_between, items-read, items_refused, whol
 pub record Read (h : Head) (l : List Bool) (r : Report) : Type 0 where
   pub whole : content_length (length l) ≡ true
   pub its : List Item
-  pub reading : content (drop (items_at Multi h) l) ≡ gives its
+  pub reading : content (drop (items_at Multi h) l) ≡ Ok its
   pub is : r ≡ multi_report h (val (take (items_at Multi h) l)) its
 
-pub message-read : (h : Head) (l : List Bool) (r : Report) → read_bits h l ≡ gives r → Read h l r
+pub message-read : (h : Head) (l : List Bool) (r : Report) → read_bits h l ≡ Ok r → Read h l r
 message-read h l r e =
     either (content_length (length l))
     (λ w. by_reading w (content (drop (items_at Multi h) l)) refl (sym (whole-read h l w) ∙ e))
     (λ f. absurd (refused-gives-none (sym (whole-refused h l f) ∙ e)))
   where
     by_reading : content_length (length l) ≡ true → (x : Reading) → content (drop (items_at Multi h) l) ≡ x
-        → read_items h (val (take (items_at Multi h) l)) (length l) (drop (items_at Multi h) l) ≡ gives r → Read h l r
-    by_reading w (gives its) c g =
-        let same : gives (multi_report h (val (take (items_at Multi h) l)) its) ≡ gives r = sym (items-read h _ (length l) _ its c) ∙ g in
+        → read_items h (val (take (items_at Multi h) l)) (length l) (drop (items_at Multi h) l) ≡ Ok r → Read h l r
+    by_reading w (Ok its) c g =
+        let same : Ok (multi_report h (val (take (items_at Multi h) l)) its) ≡ Ok r = sym (items-read h _ (length l) _ its c) ∙ g in
         record { whole = w; its = its; reading = c; is = cc }
-    by_reading w (refused u) c g = absurd (refused-gives-none (sym (items_refused h _ (length l) _ u c) ∙ g))
+    by_reading w (Err u) c g = absurd (refused-gives-none (sym (items_refused h _ (length l) _ u c) ∙ g))
 
 module _ (h : Head) (l : List Bool) (r : Report) (m : Read h l r) where
   abbrev at : ℕ
@@ -65,7 +65,7 @@ module _ (h : Head) (l : List Bool) (r : Report) (m : Read h l r) where
   length_front : length front ≡ at
   length_front = let small = place_small Multi h in let long = length_between (length l) m.whole in length-take-le at l (omega arith)
 
-  held : items (drop at l) ≡ gives m.its
+  held : items (drop at l) ≡ Ok m.its
   held = content_holds (drop at l) m.its m.reading
 
   -- the content of the report is what was read, without the zero bits after the items

@@ -1,28 +1,20 @@
--- What each answer of reading and packing a report says, in the numbers of document 01.
-use Rattle.std.specs.Prelude.{ℕ}
-use Rattle.report.specs.declared.Refusal.{Refusal}
-use Rattle.report.specs.declared.Refusal.TheVariants as refusal
-use Rattle.report.specs.declared.Answer.{Answer}
-use Rattle.report.specs.declared.Answer.TheVariants as answer
-use Rattle.report.specs.declared.Packing.{Packing}
-use Rattle.report.specs.declared.Packing.TheVariants as packing
+-- The refusal behind each reason why there is no report, in the numbers of document 01.
+use Rattle.std.specs.Prelude.{ℕ, Result, Ok, Err}
+use Rattle.refusal.specs.Number.{number}
+use Rattle.refusal.specs.declared.Refusal.{Refusal}
+use Rattle.report.specs.declared.Unreadable.{Unreadable}
+use Rattle.report.specs.declared.Unreadable.TheVariants.{Refused, Broken}
 
--- the number of a refusal, with or without a place
-abbrev pub number_of : Refusal → ℕ
-number_of (refusal.Plain n) = n
-number_of (refusal.Broken n place) = n
+-- the refusal, with or without a place
+abbrev pub refusal_of : Unreadable → Refusal
+refusal_of (Refused refusal) = refusal
+refusal_of (Broken refusal place) = refusal
 
--- the refusal's number, 0 where there is a report
-abbrev pub refusal_in : Answer → ℕ
-refusal_in answer.Read = 0
-refusal_in (answer.Refused x) = number_of x
+-- its number
+abbrev pub number_of : Unreadable → ℕ
+number_of unreadable = number (refusal_of unreadable)
 
--- the number of groups, 0 on a refusal
-abbrev pub groups_in : Packing → ℕ
-groups_in (packing.Groups n) = n
-groups_in (packing.Refused n) = 0
-
--- the refusal's number, 0 where there is none
-abbrev pub pack_refusal : Packing → ℕ
-pack_refusal (packing.Groups n) = 0
-pack_refusal (packing.Refused n) = n
+-- the refusal's number, 0 where something was read
+abbrev pub refusal_in : {A : Type 0} → Result A Unreadable → ℕ
+refusal_in (Ok a) = 0
+refusal_in (Err unreadable) = number_of unreadable

@@ -1,6 +1,9 @@
 -- A report's content as the message table keeps it: 14 bytes, first bit highest, zero filled, and the number of groups (document 01,
 -- "The message table").
-use Rattle.std.specs.Prelude.{ℕ, ◌-◌, cond, ◌&&◌, List, ◌++◌, length, drop, leb}
+use Rattle.std.specs.Prelude.{ℕ, ◌-◌, cond, ◌&&◌, List, ◌++◌, length, drop, leb, Result, Ok}
+use Rattle.refusal.specs.Checks.{must}
+use Rattle.refusal.specs.declared.Refusal.{Refusal}
+use Rattle.refusal.specs.declared.Refusal.TheVariants.{Unfit, SmallBuffer}
 use Rattle.bits.specs.Fields.{words}
 use Rattle.content.specs.declared.item.Item.{Item}
 use Rattle.content.specs.Packing.{zeros, packing, groups, longest}
@@ -8,8 +11,6 @@ use Rattle.content.specs.Stored.{listed}
 use Rattle.report.specs.declared.Report.{Report}
 use Rattle.report.specs.declared.Form.{Form}
 use Rattle.report.specs.declared.Form.TheVariants.{Single, Multi}
-use Rattle.report.specs.declared.Packing.{Packing}
-use Rattle.report.specs.declared.Packing.TheVariants.{Groups, Refused}
 use Rattle.report.specs.Fits.{report_fits}
 
 abbrev pub content_bytes : ℕ
@@ -27,9 +28,9 @@ groups_for Multi n = groups n
 unfoldable pub groups_of : Report → ℕ
 groups_of r = groups_for r.form (length (packing (listed r.items)))
 
--- refusal 9 for a report that a writer does not take, then 15 for too small a buffer; else the number of groups
-unfoldable pub pack_report : Report → ℕ → Packing
-pack_report r room = cond (report_fits r) (cond (leb content_bytes room) (Groups (groups_of r)) (Refused 15)) (Refused 9)
+-- unfit where a writer does not take the report, then too small a buffer; else the number of groups
+unfoldable pub pack_report : Report → ℕ → Result ℕ Refusal
+pack_report r room = must (report_fits r) Unfit (must (leb content_bytes room) SmallBuffer (Ok (groups_of r)))
 
 -- the buffer afterwards: the bytes first and later cells as they were; a refusal leaves it
 unfoldable pub bytes_after : Report → List ℕ → List ℕ

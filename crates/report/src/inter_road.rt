@@ -10,6 +10,7 @@ use word::Head;
 const REAL_LOCATION: usize = 16;
 
 // Whether the message is multi-group and its location an FLT code.
+#[tactic(auto, unfolding(crate::specs::InterRoad::inter_road))]
 pub fn is_inter_road(form: Form, head: Head) -> bool
     ensures { result ≡ inter_road form head }
 {
@@ -20,6 +21,7 @@ pub fn is_inter_road(form: Form, head: Head) -> bool
 }
 
 // The content bit at which the items begin.
+#[tactic(auto, unfolding(crate::specs::InterRoad::items_at))]
 pub fn items_at(form: Form, head: Head) -> usize
     ensures { result ≡ items_at form head }
 {

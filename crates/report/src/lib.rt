@@ -1,16 +1,20 @@
 // The report of a message: read from its groups, tested as a writer does, and as the message table keeps it.
 #![tactic(auto)]
 
+ghost use Rattle.std.specs.Prelude.{◌≡◌};
+ghost use Rattle.report.specs.declared.Unreadable.TheVariants.{Refused};
+
 mod fits;
 pub mod inter_road;
 mod read;
 mod record;
 
 use content::items::Items;
+use refusal::Refusal;
 use word::Head;
 
 // A single-group or a multi-group message.
-#[derive(Clone, Copy)]
+#[derive(Clone, Copy, Debug, PartialEq, Eq)]
 pub enum Form {
     Single,
     Multi,
@@ -29,31 +33,18 @@ pub struct Report {
 }
 
 // Why there is no report.
-#[derive(Clone, Copy)]
-pub enum Refusal {
-    // A number alone.
-    Plain(u8),
-    // Content that breaks: the number, 7 or 8, and the place, which is the content bit, from 0, at which the item begins that cannot be taken.
-    Broken { number: u8, place: u8 },
-}
-
-// Whether there is a report.
-#[derive(Clone, Copy)]
-pub enum Answer {
-    Read,
+#[derive(Clone, Copy, Debug, PartialEq, Eq)]
+pub enum Unreadable {
+    // A refusal alone.
     Refused(Refusal),
+    // Content that breaks: the place is the content bit, from 0, at which the item begins that cannot be taken.
+    Broken { refusal: Refusal, place: u8 },
 }
 
-// The answer, and the report beside it: blank on a refusal.
-#[derive(Clone, Copy)]
-pub struct MessageReading {
-    pub answer: Answer,
-    pub report: Report,
-}
+impl From<Refusal> for Unreadable {
+    ghost from_gives = { λ refusal unreadable. unreadable ≡ Refused refusal };
 
-// The number of groups that the packed content takes, or the refusal's number.
-#[derive(Clone, Copy)]
-pub enum Packing {
-    Groups(usize),
-    Refused(u8),
+    fn from(refusal: Refusal) -> Unreadable {
+        Unreadable::Refused(refusal)
+    }
 }

@@ -1,18 +1,22 @@
 // From the groups of a message to its report.
-ghost use Rattle.std.specs.Prelude.{◌≡◌, ◌≤◌, true, take};
-ghost use Rattle.bits.specs.Outcome.{refused};
+ghost use Rattle.std.specs.Prelude.{◌≡◌, ◌≤◌, true, take, find};
+ghost use Rattle.std.specs.List.{list_any};
 ghost use Rattle.content.specs.Halves.{bits_of, remaining};
 ghost use Rattle.content.specs.Packing.{all_fit, longest};
 ghost use Rattle.content.specs.Stored.{limit, filled, listed};
-ghost use Rattle.report.specs.Report.{single_report, multi_report, blank as Report·blank, duration_of, diversion_of};
-ghost use Rattle.report.specs.Read.{read_items, read_bits, outcome_of};
+ghost use Rattle.report.specs.Report.{single_report, multi_report, blank as Report·blank, is_duration, is_diversion, duration_of, diversion_of};
+ghost use Rattle.content.specs.declared.rest.Broken as declared;
+ghost use Rattle.content.specs.declared.read.Unread.TheVariants as unread;
+ghost use Rattle.report.specs.Read.{placed, read_items, read_bits};
 
 use crate::inter_road::items_at;
-use crate::{Answer, Form, MessageReading, Refusal, Report};
+use crate::{Form, Report, Unreadable};
 use content::content::Content;
+use content::item::Item;
 use content::items::Items;
-use content::read::{ReadAnswer, Unread};
-use content::rest::Rest;
+use content::read::Unread;
+use content::rest::{Broken, Rest};
+use refusal::Refusal;
 use word::Head;
 
 impl Report {
@@ -20,13 +24,7 @@ impl Report {
     pub fn new() -> Self
         ensures { result ≡ Report·blank }
     {
-        let head = Head {
-            direction: 0,
-            extent: 0,
-            event: 0,
-            location: 0,
-        };
-        Report::single(0, 0, head)
+        Report::single(0, 0, Head::default())
     }
 
     // The report of a single-group message.
@@ -43,13 +41,13 @@ impl Report {
         }
     }
 
-    // The report of a multi-group message, from its head and its content, which is the first `size` bits: 1 for a length that no groups
-    // give, 7 and 8 as items are read, with the place in the whole content.
-    pub fn multi(head: Head, content: Content, size: usize) -> MessageReading
-        ensures { result ≡ outcome_of (read_bits head (take size (bits_of content))) }
+    // The report of a multi-group message, from its head and its content, which is the first `size` bits: refused for a length that no groups
+    // give; broken as items are read, with the place in the whole content.
+    pub fn multi(head: Head, content: Content, size: usize) -> Result<Report, Unreadable>
+        ensures { result ≡ read_bits head (take size (bits_of content)) }
     {
         if !Content::is_length(size) {
-            return refused(Refusal::Plain(1));
+            return Err(Unreadable::Refused(Refusal::WrongLength));
         }
         let at = items_at(Form::Multi, head);
         let whole = Rest {
@@ -60,10 +58,15 @@ impl Report {
         read_items(head, whole.head(at) as u16, size, rest)
     }
 
-    // The report of a multi-group message, from its head, its real location and the first `size` bits, which hold its items alone: refusals
-    // 1, 7 and 8 as items are read, with the place in these bits.
-    pub fn with_items(head: Head, real: u16, content: Content, size: usize) -> MessageReading
-        ensures { result ≡ outcome_of (read_items head real size (take size (bits_of content))) }
+    // The report of a multi-group message, from its head, its real location and the first `size` bits, which hold its items alone: refused and
+    // broken as items are read, with the place in these bits.
+    pub fn with_items(
+        head: Head,
+        real: u16,
+        content: Content,
+        size: usize,
+    ) -> Result<Report, Unreadable>
+        ensures { result ≡ read_items head real size (take size (bits_of content)) }
     {
         let rest = Rest {
             bits: content,
@@ -74,35 +77,28 @@ impl Report {
 }
 
 // The report of items that are the rest of a content of `whole` bits.
-fn read_items(head: Head, real: u16, whole: usize, rest: Rest) -> MessageReading
+fn read_items(head: Head, real: u16, whole: usize, rest: Rest) -> Result<Report, Unreadable>
     requires { rest.left ≤ longest → (rest.left ≤ whole) × (whole ≤ longest) }
-    ensures { result ≡ outcome_of (read_items head real whole (remaining rest)) }
+    ensures { result ≡ read_items head real whole (remaining rest) }
 {
-    let reading = content::read::read(rest.bits, rest.left);
-    let answer = reading.answer;
-    let items = reading.items;
-    match answer {
-        ReadAnswer::Read => MessageReading {
-            answer: Answer::Read,
-            report: of_items(head, real, items),
-        },
-        ReadAnswer::Refused(unread) => match unread {
-            Unread::TooLong => refused(Refusal::Plain(1)),
-            Unread::Unfit { number, left } => refused(Refusal::Broken {
-                number,
-                place: (whole - left as usize) as u8,
-            }),
-        },
+    match content::read::read(rest.bits, rest.left) {
+        Ok(items) => Ok(of_items(head, real, items)),
+        Err(unread) => Err(placed(whole, unread)),
     }
 }
 
-// A refusal, and no report.
-fn refused(refusal: Refusal) -> MessageReading
-    ensures { result ≡ outcome_of (refused refusal) }
+// Why there is no report: the place is how many of `whole` bits of content stand before those that are left.
+#[tactic(auto, unfolding(crate::specs::Read::placed))]
+fn placed(whole: usize, cause: Unread) -> Unreadable
+    requires { (broken : declared.Broken) → cause ≡ unread.Broken broken → (broken.left ≤ whole) × (whole ≤ longest) }
+    ensures { result ≡ placed whole cause }
 {
-    MessageReading {
-        answer: Answer::Refused(refusal),
-        report: Report::new(),
+    match cause {
+        Unread::TooLong => Unreadable::Refused(Refusal::WrongLength),
+        Unread::Broken(Broken { refusal, left }) => Unreadable::Broken {
+            refusal,
+            place: (whole - left as usize) as u8,
+        },
     }
 }
 
@@ -111,46 +107,46 @@ fn of_items(head: Head, real: u16, items: Items) -> Report
     requires { (items.count ≤ limit) × (all_fit (listed items) ≡ true) × (filled (listed items) ≡ items) }
     ensures { result ≡ multi_report head real (listed items) }
 {
+    let used = items.listed();
     Report {
         form: Form::Multi,
         head,
         real,
-        diversion: diversion(items),
-        duration: duration(items) as u8,
+        diversion: diversion(used),
+        duration: duration(used) as u8,
         items,
     }
 }
 
 // The value of the first label 0 item, or 0.
-pub(crate) fn duration(items: Items) -> u16
-    requires { items.count ≤ limit }
-    ensures { result ≡ duration_of (listed items) }
+pub(crate) fn duration(items: &[Item]) -> u16
+    ensures { result ≡ duration_of items.now }
 {
-    let n = items.count;
-    let mut i = 0;
-    while i < n {
-        let item = items.places[i];
-        if item.label == 0 {
-            return item.value;
-        }
-        i += 1;
+    match duration_item(items) {
+        Some(item) => item.value,
+        None => 0,
     }
-    0
+}
+
+// The first label 0 item.
+fn duration_item(items: &[Item]) -> Option<Item>
+    ensures { result ≡ find is_duration items.now }
+{
+    items.iter().copied().find(|item| item.label == 0)
 }
 
 // 1 if an item is label 1 value 5, else 0.
-pub(crate) fn diversion(items: Items) -> u8
-    requires { items.count ≤ limit }
-    ensures { result ≡ diversion_of (listed items) }
+pub(crate) fn diversion(items: &[Item]) -> u8
+    ensures { result ≡ diversion_of items.now }
 {
-    let n = items.count;
-    let mut i = 0;
-    while i < n {
-        let item = items.places[i];
-        if (item.label == 1) & (item.value == 5) {
-            return 1;
-        }
-        i += 1;
-    }
-    0
+    diverts(items) as u8
+}
+
+// Whether an item is label 1 value 5.
+fn diverts(items: &[Item]) -> bool
+    ensures { result ≡ list_any is_diversion items.now }
+{
+    items
+        .iter()
+        .any(|item| (item.label == 1) & (item.value == 5))
 }

@@ -4,36 +4,31 @@ ghost use Rattle.bits.specs.Fields.{words};
 ghost use Rattle.content.specs.Halves.{bits_of};
 ghost use Rattle.report.specs.Record.{content_bytes, groups_for, pack_report, bytes_after};
 
-use crate::{Form, Packing, Report};
+use crate::{Form, Report};
 use bits::bytes::store;
 use content::content::Content;
 use content::pack::pack;
+use refusal::Refusal;
 
 impl Report {
     // The bytes of the longest content.
     pub const CONTENT: usize = 14;
 
     // Puts the content into the first 14 cells of a buffer, first bit highest and zero filled, and answers how many groups the report
-    // takes. A report that a writer does not take is refused (9), then too small a buffer (15); a refusal leaves the buffer.
-    pub fn pack_content(self, out: &mut [u8]) -> Packing
+    // takes. A report that a writer does not take is unfit, and then a buffer may be too small; a refusal leaves the buffer.
+    pub fn pack_content(self, out: &mut [u8]) -> Result<usize, Refusal>
         ensures value { result ≡ pack_report self (length out.old) }
         ensures out_after { out.new ≡ bytes_after self out.old }
     {
-        if self.fits() {
-            if Report::CONTENT <= out.len() {
-                let form = self.form;
-                let packed = pack(self.items);
-                let answer = packed.answer;
-                let content = packed.content;
-                let end = Report::CONTENT;
-                put_content(content, &mut out[..end]);
-                Packing::Groups(groups_for(form, answer.bits()))
-            } else {
-                Packing::Refused(15)
-            }
-        } else {
-            Packing::Refused(9)
+        if !self.fits() {
+            return Err(Refusal::Unfit);
         }
+        if out.len() < Report::CONTENT {
+            return Err(Refusal::SmallBuffer);
+        }
+        let packed = pack(self.items)?;
+        put_content(packed.content, &mut out[..Report::CONTENT]);
+        Ok(groups_for(self.form, packed.bits))
     }
 }
 
@@ -47,6 +42,7 @@ fn put_content(content: Content, out: &mut [u8])
 }
 
 // The groups of a report whose items take n bits.
+#[tactic(auto, unfolding(crate::specs::Record::groups_for))]
 fn groups_for(form: Form, n: usize) -> usize
     ensures { result ≡ groups_for form n }
 {

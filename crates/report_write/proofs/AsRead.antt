@@ -8,7 +8,7 @@ use lib.ListN.{length, take, drop}
 use borrow.Author.Tests.{ltb-true}
 use Rattle.bits.specs.Bits.{val}
 use Rattle.bits.specs.Fields.{pack, fits}
-use Rattle.bits.specs.Outcome.{gives}
+use Rattle.std.specs.Prelude.{Ok}
 use Rattle.bits.proofs.Choice.{chosen}
 use Rattle.bits.proofs.Value.{val-bits_lt}
 use Rattle.bits.proofs.Fields.{flat-words}
@@ -64,18 +64,18 @@ module _ (r : Report) (sized : length r.items.places ≡ limit) (real : real_fit
       ∙ ap val (padded_front (real_bits r) (listed r.items))
       ∙ val-bits_lt (items_at r.form r.head) r.real (ltb-true r.real (2 ^ items_at r.form r.head) real)
 
-  items_back : content (drop (items_at form.Multi r.head) all) ≡ gives (listed r.items)
+  items_back : content (drop (items_at form.Multi r.head) all) ≡ Ok (listed r.items)
   unfolding content_of
   items_back =
       ap (λ (n : ℕ). content (drop n all)) begin
       ∙ written_is_read (real_bits r) (listed r.items) (fit-writable r.items (items-fit r f)) (content_short r f)
 
-  pub contents_read : read_report r.head (contents_of (content_of r)) ≡ gives r
+  pub contents_read : read_report r.head (contents_of (content_of r)) ≡ Ok r
   unfolding contents_of read_report
   contents_read =
       let k = groups (length (content_of r)) - 1 in
       ap (read_bits r.head) (flat-words group_bits k all (length-padded (content_of r) ∙ mul_comm group_bits k))
       ∙ whole-read r.head all (padded-length (content_of r) (content_short r f))
       ∙ items-read r.head _ (length all) _ (listed r.items) items_back
-      ∙ ap (λ (n : ℕ). gives (multi_report r.head n (listed r.items))) real_back
-      ∙ ap gives (multi_is_report r sized f e)
+      ∙ ap (λ (n : ℕ). Ok (multi_report r.head n (listed r.items))) real_back
+      ∙ ap Ok (multi_is_report r sized f e)

@@ -7,7 +7,8 @@ use lib.ListN.{length, drop, set}
 use borrow.Rule.Slice.PartMut.{put_mid}
 use borrow.Author.Tests.{le-leb, lt-leb}
 use Rattle.bits.proofs.Choice.{chosen, passed_over}
-use Rattle.bits.specs.declared.Writing.TheVariants.{Written, Refused}
+use Rattle.std.specs.Prelude.{Ok, Err}
+use Rattle.refusal.specs.declared.Refusal.TheVariants.{SmallBuffer}
 use Rattle.report_write.specs.Write.{answer_for, buffer_after}
 
 -- a word in the first cell
@@ -22,10 +23,10 @@ two_and_more (a ∷ []) x y m k ys h e = absurd (omega arith)
 two_and_more (a ∷ b ∷ out) x y m k ys h e = ap (λ (n : ℕ). x ∷ y ∷ (ys ++ drop n out)) e
 
 module _ (ws out : List ℕ) where
-  pub with_room : length ws ≤ length out → (Written (length ws) ≡ answer_for ws (length out)) × (ws ++ drop (length ws) out ≡ buffer_after ws out)
+  pub with_room : length ws ≤ length out → (Ok (length ws) ≡ answer_for ws (length out)) × (ws ++ drop (length ws) out ≡ buffer_after ws out)
   unfolding answer_for buffer_after
   with_room h = let room = le-leb (length ws) (length out) h in (sym (chosen _ _ _ room), sym (chosen _ _ _ room))
 
-  pub no_room : length out < length ws → (Refused 15 ≡ answer_for ws (length out)) × (out ≡ buffer_after ws out)
+  pub no_room : length out < length ws → (Err SmallBuffer ≡ answer_for ws (length out)) × (out ≡ buffer_after ws out)
   unfolding answer_for buffer_after
   no_room h = let room = lt-leb (length ws) (length out) h in (sym (passed_over _ _ _ room), sym (passed_over _ _ _ room))

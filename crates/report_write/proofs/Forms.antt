@@ -9,7 +9,8 @@ use Rattle.word.specs.Compose.{is_index}
 use Rattle.report.specs.declared.Report.{Report}
 use Rattle.report.specs.declared.Form.{Form}
 use Rattle.report.specs.declared.Form.TheVariants.{Single, Multi}
-use Rattle.bits.specs.declared.Writing.TheVariants.{Refused}
+use Rattle.std.specs.Prelude.{Err}
+use Rattle.refusal.specs.declared.Refusal.TheVariants.{Unfit}
 use Rattle.report.specs.Fits.{single_fits, multi_fits, fits_by, real_fits, report_fits}
 use Rattle.report_write.specs.Write.{index_fits, single_words, multi_words, words_by, words_of, can_write, answer_for, buffer_after, write_report, words_after}
 
@@ -52,6 +53,6 @@ module _ (ci : ℕ) (r : Report) where
     unfolding words_of words_by
     multi-written out e = written (multi_words ci r) out (ap (λ (f : Form). words_by f ci r) e)
 
-  pub not_written : can_write ci r ≡ false → (out : List ℕ) → (Refused 9 ≡ write_report ci r (length out)) × (out ≡ words_after ci r out)
+  pub not_written : can_write ci r ≡ false → (out : List ℕ) → (Err Unfit ≡ write_report ci r (length out)) × (out ≡ words_after ci r out)
   unfolding write_report words_after
   not_written no_way out = (sym (passed_over _ _ _ no_way), sym (passed_over _ _ _ no_way))

@@ -43,9 +43,6 @@ module _ (ci : ℕ) (out₀ : List ℕ) (b : List Bool) where
   made_none = record { left = length out₀; made = []; total = omega arith; size = refl; cells = refl; all = refl; bits = sym (append-nil b) }
 
   module _ (out : List ℕ) (rest : List Bool) (i : ℕ) (m : Made ci out₀ b out rest i) (few : length out₀ ≤ 3) (wide : length b ≡ 128) where
-    pub same-cells : length out ≡ length out₀
-    same-cells = ap length m.cells ∙ length-append m.made (drop i out₀) ∙ ap₂ (λ (x y : ℕ). x + y) m.size (length-drop i out₀) ∙ omega (arith, m.total)
-
     -- the next group's content is that of the bits left
     next-bits : i < length out₀ → val (take group_bits rest) ≡ val (take group_bits (drop (i * group_bits) b))
     next-bits h = ap val (ap (take group_bits) m.bits ∙ take-append-le group_bits (drop (i * group_bits) b) (zeros (i * group_bits)) (omega (arith, length-drop (i * group_bits) b)))

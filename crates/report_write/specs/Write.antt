@@ -1,6 +1,6 @@
 -- The words of a report in a lent buffer (document 01, "Multi-group content"; ISO 14819-1, clauses 6.7.2, 7.4, 9.4.2 and
 -- 9.4.3).
-use Rattle.std.specs.Prelude.{ℕ, ◌-◌, Bool, cond, ◌&&◌, List, [], ◌∷◌, ◌++◌, length, drop, leb, eqb}
+use Rattle.std.specs.Prelude.{ℕ, ◌-◌, Bool, cond, ◌&&◌, List, [], ◌∷◌, ◌++◌, length, drop, leb, eqb, Result, Ok}
 use Rattle.bits.specs.Bits.{val}
 use Rattle.bits.specs.Fields.{words, pack}
 use Rattle.word.specs.Format.{head_format, later_format}
@@ -11,8 +11,9 @@ use Rattle.report.specs.declared.Form.{Form}
 use Rattle.report.specs.declared.Form.TheVariants.{Single, Multi}
 use Rattle.report.specs.InterRoad.{content_of}
 use Rattle.report.specs.Fits.{report_fits}
-use Rattle.bits.specs.declared.Writing.{Writing}
-use Rattle.bits.specs.declared.Writing.TheVariants.{Written, Refused}
+use Rattle.refusal.specs.declared.Refusal.{Refusal}
+use Rattle.refusal.specs.declared.Refusal.TheVariants.{Unfit, SmallBuffer}
+use Rattle.refusal.specs.Checks.{must}
 
 -- the continuity index: 0 for a single-group report, 1 to 6 for a multi-group one
 unfoldable pub index_fits : Form → ℕ → Bool
@@ -58,17 +59,17 @@ words_by Multi ci r = multi_words ci r
 unfoldable pub words_of : ℕ → Report → List ℕ
 words_of ci r = words_by r.form ci r
 
--- words into the first cells of a buffer: 15 where there are too few cells, else the number of words
-unfoldable pub answer_for : List ℕ → ℕ → Writing
-answer_for ws room = cond (leb (length ws) room) (Written (length ws)) (Refused 15)
+-- words into the first cells of a buffer: refused where there are too few cells, else the number of words
+unfoldable pub answer_for : List ℕ → ℕ → Result ℕ Refusal
+answer_for ws room = must (leb (length ws) room) SmallBuffer (Ok (length ws))
 
 -- the buffer afterwards: the words first and later cells as they were; all as they were where there are too few
 unfoldable pub buffer_after : List ℕ → List ℕ → List ℕ
 buffer_after ws out = cond (leb (length ws) (length out)) (ws ++ drop (length ws) out) out
 
--- refusal 9 for what is not to be written, then 15 for too small a buffer
-unfoldable pub write_report : ℕ → Report → ℕ → Writing
-write_report ci r room = cond (can_write ci r) (answer_for (words_of ci r) room) (Refused 9)
+-- what is not to be written is refused, then too small a buffer
+unfoldable pub write_report : ℕ → Report → ℕ → Result ℕ Refusal
+write_report ci r room = must (can_write ci r) Unfit (answer_for (words_of ci r) room)
 
 -- the buffer after a call; a refusal leaves it
 unfoldable pub words_after : ℕ → Report → List ℕ → List ℕ

@@ -10,32 +10,32 @@ ghost use Rattle.report.specs.InterRoad.{content_of};
 ghost use Rattle.report.specs.Fits.{single_fits, multi_fits};
 ghost use Rattle.report_write.specs.Write.{index_fits, write_report, words_after, answer_for, buffer_after, single_words, tail_words, multi_words};
 
-use bits::Writing;
 use content::content::Content;
 use content::pack::pack;
 use content::rest::Rest;
+use refusal::Refusal;
 use report::inter_road::items_at;
 use report::{Form, Report};
 use word::compose::{first_number, is_index, later_number, single_number};
 
 // Writes the words of a report with a continuity index, 0 for a single-group report and 1 to 6 for a multi-group one, into the first cells of a
-// buffer. What is not to be written is refused (9), then too small a buffer (15); a refusal leaves the buffer.
-pub fn write(report: Report, ci: u8, out: &mut [u64]) -> Writing
+// buffer, and gives their number. What is not to be written is refused, then too small a buffer; a refusal leaves the buffer.
+pub fn write(report: Report, ci: u8, out: &mut [u64]) -> Result<usize, Refusal>
     ensures value { result ≡ write_report ci report (length out.old) }
     ensures out_after { out.new ≡ words_after ci report out.old }
 {
     let form = report.form;
-    if report.fits() & index_fits(form, ci) {
-        match form {
-            Form::Single => write_single(report, out),
-            Form::Multi => write_multi(report, ci, out),
-        }
-    } else {
-        Writing::Refused(9)
+    if !(report.fits() & index_fits(form, ci)) {
+        return Err(Refusal::Unfit);
+    }
+    match form {
+        Form::Single => write_single(report, out),
+        Form::Multi => write_multi(report, ci, out),
     }
 }
 
 // Whether the continuity index is one for the form.
+#[tactic(auto, unfolding(crate::specs::Write::index_fits))]
 fn index_fits(form: Form, ci: u8) -> bool
     ensures { result ≡ index_fits form ci }
 {
@@ -45,21 +45,21 @@ fn index_fits(form: Form, ci: u8) -> bool
     }
 }
 
-fn write_single(r: Report, out: &mut [u64]) -> Writing
+#[tactic(auto, unfolding(crate::specs::Write::single_words, crate::specs::Write::answer_for, crate::specs::Write::buffer_after))]
+fn write_single(r: Report, out: &mut [u64]) -> Result<usize, Refusal>
     requires { single_fits r ≡ true }
     ensures value { result ≡ answer_for (single_words r) (length out.old) }
     ensures out_after { out.new ≡ buffer_after (single_words r) out.old }
 {
-    if 1 <= out.len() {
-        out[0] = single_number(r.duration, r.diversion, r.head);
-        Writing::Written(1)
-    } else {
-        Writing::Refused(15)
+    if out.is_empty() {
+        return Err(Refusal::SmallBuffer);
     }
+    out[0] = single_number(r.duration, r.diversion, r.head);
+    Ok(1)
 }
 
 // The first group, the second group with its mark, and the groups after it.
-fn write_multi(r: Report, ci: u8, out: &mut [u64]) -> Writing
+fn write_multi(r: Report, ci: u8, out: &mut [u64]) -> Result<usize, Refusal>
     requires { (multi_fits r ≡ true) × (is_index ci ≡ true) }
     ensures value { result ≡ answer_for (multi_words ci r) (length out.old) }
     ensures out_after { out.new ≡ buffer_after (multi_words ci r) out.old }
@@ -67,15 +67,14 @@ fn write_multi(r: Report, ci: u8, out: &mut [u64]) -> Writing
     let whole = content_of(r);
     let content = whole.bits;
     let end = Content::groups(whole.left);
-    if end <= out.len() {
-        let bits = content.first_bits(Content::GROUP);
-        out[0] = first_number(ci, r.head);
-        out[1] = later_number(ci, 1, (end - 2) as u8, bits as u32);
-        put_tail(ci, content.shifted_left(Content::GROUP), &mut out[2..end]);
-        Writing::Written(end)
-    } else {
-        Writing::Refused(15)
+    if out.len() < end {
+        return Err(Refusal::SmallBuffer);
     }
+    let bits = content.first_bits(Content::GROUP);
+    out[0] = first_number(ci, r.head);
+    out[1] = later_number(ci, 1, (end - 2) as u8, bits as u32);
+    put_tail(ci, content.shifted_left(Content::GROUP), &mut out[2..end]);
+    Ok(end)
 }
 
 // The content bits of a multi-group report: its real location, if it has a place for it, and its items.
@@ -83,14 +82,11 @@ fn content_of(r: Report) -> Rest
     requires { multi_fits r ≡ true }
     ensures { result ≡ record { bits = starting_with (content_of r); left = length (content_of r) } }
 {
-    let packed = pack(r.items);
-    let answer = packed.answer;
-    let items = packed.content;
-    let form = r.form;
-    let at = items_at(form, r.head);
+    let packed = pack(r.items).unwrap();
+    let at = items_at(r.form, r.head);
     Rest {
-        bits: items.prefixed(at, r.real as u64),
-        left: at + answer.bits(),
+        bits: packed.content.prefixed(at, r.real as u64),
+        left: at + packed.bits,
     }
 }
 
@@ -101,11 +97,9 @@ fn put_tail(ci: u8, content: Content, out: &mut [u64])
 {
     let n = out.len();
     let mut rest = content;
-    let mut i = 0;
-    while i < n {
+    for (i, cell) in out.iter_mut().enumerate() {
         let bits = rest.first_bits(Content::GROUP);
-        out[i] = later_number(ci, 0, (n - 1 - i) as u8, bits as u32);
+        *cell = later_number(ci, 0, (n - 1 - i) as u8, bits as u32);
         rest = rest.shifted_left(Content::GROUP);
-        i += 1;
     }
 }

@@ -1,7 +1,8 @@
 -- What a word and a frame print, and the session after them (document 01, "The listing program").
-use Rattle.std.specs.Prelude.{ℕ, ◌+◌, ◌*◌, ◌%◌, ◌^◌, List, [], ◌∷◌, ◌++◌, drop}
-use Rattle.report.specs.declared.Report.{Report}
-use Rattle.report.specs.declared.Refusal.TheVariants.{Plain}
+use Rattle.std.specs.Prelude.{ℕ, ◌+◌, ◌*◌, ◌%◌, ◌^◌, List, [], ◌∷◌, ◌++◌, drop, Result, Ok, Err}
+use Rattle.refusal.specs.declared.Refusal.{Refusal}
+use Rattle.report.specs.declared.Unreadable.{Unreadable}
+use Rattle.report.specs.declared.Unreadable.TheVariants.{Refused}
 use Rattle.rds.specs.declared.Run.{Run}
 use Rattle.rds.specs.declared.Run.TheVariants as run
 use Rattle.assembler.specs.declared.Assembler.TheVariants as assembler
@@ -12,7 +13,7 @@ use Rattle.report.specs.Read.{read_report}
 use Rattle.assembler.specs.Step.{step_of}
 use Rattle.lines.specs.Line.{report_line, refusal_line, room}
 use Rattle.framing.specs.Frame.{kind_of}
-use Rattle.carriers.specs.Carried.{Carries, gives, refuses, most_words, carried_by, run_after}
+use Rattle.carriers.specs.Carried.{most_words, carried_by, run_after}
 use Rattle.session.specs.declared.Session.{Session}
 
 -- numbers count from 1; they have 64 bits
@@ -24,27 +25,27 @@ abbrev pub start : Session
 start = record { assembler = assembler.Empty; run = run.Empty; frames = 0; reports = 0 }
 
 -- the number of the last report, after an answer
-unfoldable pub counted : Answer → ℕ → ℕ
-counted answer.Nothing n = n
-counted answer.Report n = next n
-counted (answer.Tuning w) n = n
-counted (answer.Administration w) n = n
-counted (answer.Refused x) n = n
+unfoldable pub counted : Result Answer Unreadable → ℕ → ℕ
+counted (Ok answer.Nothing) n = n
+counted (Ok (answer.Report r)) n = next n
+counted (Ok (answer.Tuning w)) n = n
+counted (Ok (answer.Administration w)) n = n
+counted (Err x) n = n
 
 -- a report or a refusal prints its line; nothing yet, tuning and administration words print nothing
-unfoldable pub answer_text : Answer → Report → ℕ → ℕ → List ℕ
-answer_text answer.Nothing r number frame = []
-answer_text answer.Report r number frame = report_line number r
-answer_text (answer.Tuning w) r number frame = []
-answer_text (answer.Administration w) r number frame = []
-answer_text (answer.Refused x) r number frame = refusal_line frame x
+unfoldable pub answer_text : Result Answer Unreadable → ℕ → ℕ → List ℕ
+answer_text (Ok answer.Nothing) number frame = []
+answer_text (Ok (answer.Report r)) number frame = report_line number r
+answer_text (Ok (answer.Tuning w)) number frame = []
+answer_text (Ok (answer.Administration w)) number frame = []
+answer_text (Err x) number frame = refusal_line frame x
 
 -- one word
 abbrev pub after_step : Session → Step → Session
 after_step s step = record { assembler = step.next; run = s.run; frames = s.frames; reports = counted step.answer s.reports }
 
 abbrev pub step_text : Session → Step → List ℕ
-step_text s step = answer_text step.answer step.report (counted step.answer s.reports) s.frames
+step_text s step = answer_text step.answer (counted step.answer s.reports) s.frames
 
 unfoldable pub after_word : Session → ℕ → Session
 after_word s w = after_step s (step_of read_report s.assembler w)
@@ -62,13 +63,13 @@ words_text s [] = []
 words_text s (w ∷ ws) = word_text s w ++ words_text (after_word s w) ws
 
 -- what a frame carries
-unfoldable pub after_carried : Session → Carries → Session
-after_carried s (gives ws) = after_words s ws
-after_carried s (refuses n) = s
+unfoldable pub after_carried : Session → Result (List ℕ) Refusal → Session
+after_carried s (Ok ws) = after_words s ws
+after_carried s (Err refusal) = s
 
-unfoldable pub carried_text : Session → Carries → List ℕ
-carried_text s (gives ws) = words_text s ws
-carried_text s (refuses n) = refusal_line s.frames (Plain n)
+unfoldable pub carried_text : Session → Result (List ℕ) Refusal → List ℕ
+carried_text s (Ok ws) = words_text s ws
+carried_text s (Err refusal) = refusal_line s.frames (Refused refusal)
 
 -- one frame, its kind and body: it is counted, and then what it carries
 abbrev pub counting : Session → Run → Session

@@ -8,11 +8,11 @@ ghost use Rattle.framing.specs.Frame.{kind_of as Frame·kind_of};
 ghost use Rattle.session.specs.Session.{start, answer_text, counted as Session·counted, next as Session·next, after_word, word_text, after_words, words_text, after_frame, frame_text, frame_room};
 
 use assembler::{Answer, Assembler};
-use carriers::{Carried, receive};
+use carriers::{Reception, receive};
 use framing::little;
 use lines::line::{ROOM, put_refusal, put_report};
 use rds::Run;
-use report::{Refusal, Report};
+use report::Unreadable;
 
 // What is kept between two frames.
 #[derive(Clone, Copy)]
@@ -37,7 +37,7 @@ impl Session {
     // The bytes of a frame's kind.
     pub const KIND: usize = 2;
     // The most text that a frame gives.
-    pub const ROOM: usize = Carried::WORDS * ROOM;
+    pub const ROOM: usize = Reception::WORDS * ROOM;
 
     // The session before any frame.
     pub fn new() -> Self
@@ -52,26 +52,21 @@ impl Session {
     }
 
     // Takes a word of the last frame to its line, if it has one.
+    #[tactic(auto, unfolding(crate::specs::Session::after_word, crate::specs::Session::word_text))]
     fn word(self, word: u64, out: &mut [u8], at: usize) -> Told
         requires { at + room ≤ length out.old }
         ensures session_value { result.session ≡ after_word self word }
         ensures put { Put at (word_text self word) out.old result.at out.new }
         ensures at_bound { result.at ≤ at + room }
     {
-        let assembler = self.assembler;
-        let run = self.run;
-        let step = assembler.step(word);
-        let next = step.next;
-        let answer = step.answer;
-        let report = step.report;
-        let reports = counted(answer, self.reports);
-        let end = put_answer(out, at, answer, report, reports, self.frames);
+        let step = self.assembler.step(word);
+        let reports = counted(step.answer, self.reports);
+        let end = put_answer(out, at, step.answer, reports, self.frames);
         Told {
             session: Session {
-                assembler: next,
-                run,
-                frames: self.frames,
+                assembler: step.next,
                 reports,
+                ..self
             },
             at: end,
         }
@@ -84,51 +79,42 @@ impl Session {
         ensures put { Put at (words_text self words.now) out.old result.at out.new }
         ensures at_bound { result.at ≤ at + length words.now * room }
     {
-        let mut session = self;
-        let mut p = at;
-        let mut i = 0;
-        while i < words.len() {
-            let told = session.word(words[i], out, p);
-            session = told.session;
-            p = told.at;
-            i += 1;
+        let mut told = Told { session: self, at };
+        for word in words {
+            told = told.session.word(*word, out, told.at);
         }
-        Told { session, at: p }
+        told
     }
 
     // Takes a frame, its kind and body, to its lines. An inner call: it asks for the bytes of a kind and for `ROOM` in the buffer.
+    #[tactic(auto, using(crate::proofs::Turns::tail_part), unfolding(crate::specs::Session::after_frame, crate::specs::Session::frame_text, crate::specs::Session::after_carried, crate::specs::Session::carried_text))]
     pub fn frame(self, bytes: &[u8], out: &mut [u8], at: usize) -> Told
         requires { (2 ≤ length bytes.now) × (at + frame_room ≤ length out.old) }
         ensures session_value { result.session ≡ after_frame self bytes.now }
         ensures put { Put at (frame_text self bytes.now) out.old result.at out.new }
         ensures at_bound { result.at ≤ at + frame_room }
     {
-        let assembler = self.assembler;
-        let run = self.run;
         let frames = next(self.frames);
-        let kind = kind_of(bytes);
-        let body = Session::KIND;
-        let mut words = [0u64; Carried::WORDS];
-        let reception = receive(run, kind, &bytes[body..], &mut words);
-        let after = reception.run;
-        let carried = reception.carried;
+        let mut words = [0u64; Reception::WORDS];
+        let body = &bytes[Session::KIND..];
+        let reception = receive(self.run, kind_of(bytes), body, &mut words);
         let session = Session {
-            assembler,
-            run: after,
+            run: reception.run,
             frames,
-            reports: self.reports,
+            ..self
         };
-        match carried {
-            Carried::Words(n) => session.words(&words[..n], out, at),
-            Carried::Refused(n) => {
-                let end = put_refusal(out, at, frames, Refusal::Plain(n));
-                Told { session, at: end }
-            }
+        match reception.carried {
+            Ok(n) => session.words(&words[..n], out, at),
+            Err(refusal) => Told {
+                session,
+                at: put_refusal(out, at, frames, Unreadable::Refused(refusal)),
+            },
         }
     }
 }
 
 // The kind, 16 bits, low byte first.
+#[tactic(auto, unfolding(framing::specs::Frame::kind_of))]
 fn kind_of(bytes: &[u8]) -> usize
     requires { 2 ≤ length bytes.now }
     ensures { result ≡ Frame·kind_of bytes.now }
@@ -137,15 +123,13 @@ fn kind_of(bytes: &[u8]) -> usize
 }
 
 // The number of the last report, after an answer.
-fn counted(answer: Answer, reports: u64) -> u64
+#[tactic(auto, unfolding(crate::specs::Session::counted))]
+fn counted(answer: Result<Answer, Unreadable>, reports: u64) -> u64
     ensures { result ≡ Session·counted answer reports }
 {
     match answer {
-        Answer::Report => next(reports),
-        Answer::Nothing => reports,
-        Answer::Tuning(_) => reports,
-        Answer::Administration(_) => reports,
-        Answer::Refused(_) => reports,
+        Ok(Answer::Report(_)) => next(reports),
+        _ => reports,
     }
 }
 
@@ -157,23 +141,21 @@ pub fn next(n: u64) -> u64
 }
 
 // Puts the line of an answer, if it has one.
+#[tactic(auto, using(lines::proofs::Puts::put_nothing), unfolding(crate::specs::Session::answer_text))]
 fn put_answer(
     out: &mut [u8],
     at: usize,
-    answer: Answer,
-    report: Report,
+    answer: Result<Answer, Unreadable>,
     number: u64,
     frame: u64,
 ) -> usize
     requires { at + room ≤ length out.old }
-    ensures put { Put at (answer_text answer report number frame) out.old result out.new }
+    ensures put { Put at (answer_text answer number frame) out.old result out.new }
     ensures upper_bound { result ≤ at + room }
 {
     match answer {
-        Answer::Report => put_report(out, at, number, report),
-        Answer::Refused(refusal) => put_refusal(out, at, frame, refusal),
-        Answer::Nothing => at,
-        Answer::Tuning(_) => at,
-        Answer::Administration(_) => at,
+        Ok(Answer::Report(report)) => put_report(out, at, number, report),
+        Err(refusal) => put_refusal(out, at, frame, refusal),
+        _ => at,
     }
 }

@@ -3,7 +3,8 @@ use Prim.Native.Nat.{ℕ}
 use mathlib.Core.Path.{◌≡◌, refl, sym, ap, ◌∙◌}
 use mathlib.Core.Bool.{Bool, true, false}
 use mathlib.Core.List.{List}
-use native.Mathlib.Omega.{arith}
+use Rattle.std.specs.Prelude.{Result, Ok}
+use Rattle.refusal.specs.declared.Refusal.{Refusal}
 use Rattle.bits.specs.Bits.{bits, val}
 use Rattle.bits.specs.Fields.{size, unpack, pack, fits}
 use Rattle.bits.proofs.Choice.{chosen, passed_over}
@@ -11,21 +12,16 @@ use Rattle.bits.proofs.Value.{bits-val}
 use Rattle.bits.proofs.Formats.{unpack-bits, unpack-pack, length-pack}
 use Rattle.system.specs.declared.System.{System}
 use Rattle.system.specs.declared.System.TheVariants.{Table, Service}
-use Rattle.system.specs.declared.Reading.TheVariants.{Taken}
-use Rattle.system.specs.declared.Writing.TheVariants.{Word, Refused}
 use Rattle.system.specs.Format.{variant_in, table_format, service_format}
 use Rattle.system.specs.Read.{system_of, system_by}
 use Rattle.system.specs.Write.{word_of, written, table_values, service_values}
 
-word-of : (ws vs : List ℕ) (n : ℕ) (t : Bool) → fits ws vs ≡ t → word_of ws vs ≡ Word n → (fits ws vs ≡ true) × (val (pack ws vs) ≡ n)
-word-of ws vs n true e h = let k : Word (val (pack ws vs)) ≡ Word n = sym (chosen _ _ _ e) ∙ h in (e, cc)
-word-of ws vs n false e h =
-    let k : Refused 9 ≡ Word n = sym (passed_over _ _ _ e) ∙ h in
-    let z : ◌≡◌ {A = ℕ} 0 1 = cc in
-    absurd (omega arith)
+word-of : (ws vs : List ℕ) (n : ℕ) (t : Bool) → fits ws vs ≡ t → word_of ws vs ≡ Ok n → (fits ws vs ≡ true) × (val (pack ws vs) ≡ n)
+word-of ws vs n true e h = let k : ◌≡◌ {A = Result ℕ Refusal} (Ok (val (pack ws vs))) (Ok n) = sym (chosen _ _ _ e) ∙ h in (e, cc)
+word-of ws vs n false e h = absurd (let k = sym (passed_over _ _ _ e) ∙ h in cc)
 
 -- a written word has the fields that were written
-fields_back : (ws vs : List ℕ) → size ws ≡ 16 → (n : ℕ) → word_of ws vs ≡ Word n → unpack ws (bits 16 n) ≡ vs
+fields_back : (ws vs : List ℕ) → size ws ≡ 16 → (n : ℕ) → word_of ws vs ≡ Ok n → unpack ws (bits 16 n) ≡ vs
 fields_back ws vs e n h =
     let got = word-of ws vs n _ refl h in
     ap (λ (m : ℕ). unpack ws (bits 16 m)) (sym got.1)
@@ -36,7 +32,7 @@ fields_back ws vs e n h =
 same_variant : (n : ℕ) → variant_in (unpack table_format (bits 16 n)) ≡ variant_in (unpack service_format (bits 16 n))
 same_variant n = rw (unpack-bits table_format, unpack-bits service_format)
 
-pub write_read : (s : System) (n : ℕ) → written s ≡ Word n → system_of n ≡ Taken s
+pub write_read : (s : System) (n : ℕ) → written s ≡ Ok n → system_of n ≡ Ok s
 unfolding written system_of system_by
 write_read (Table ltn afi mode i m r u) n h = rw (fields_back table_format (table_values ltn afi mode i m r u) refl n h)
 write_read (Service gap sid ta tw td) n h =

@@ -6,10 +6,15 @@ use mathlib.Core.Bool.{Bool, true, false, cond, not, ◌&&◌, ◌||◌}
 use mathlib.Core.List.{List, [], ◌∷◌, ◌++◌, map}
 use lib.ListN.{length, set, get_or}
 use Rattle.bits.specs.Bits.{num}
-use Rattle.bits.proofs.Choice.{and_left, and_right, chosen, passed_over}
+use Rattle.std.specs.List.{position, position_or_len}
+use Rattle.std.specs.Option.{is_none, unwrap_or}
+use Rattle.std.specs.Prelude.{Some, None}
+use lib.Dec.{ltb}
+use borrow.Author.Tests.{ltb-true, ltb-false, lt-ltb, le-ltb}
+use Rattle.bits.proofs.Choice.{either as by_either, and_left, and_right}
 use Rattle.record.specs.Gone.{either, only_second}
 use Rattle.lent.specs.Records.{all_of}
-use Rattle.table.specs.Records.{count_if, first_of}
+use Rattle.table.specs.Records.{count_if}
 
 pub num_le : (b : Bool) → num b ≤ 1
 unfolding num
@@ -70,66 +75,66 @@ count_set p [] i r d h = absurd (omega arith)
 count_set p (x ∷ rs) zero r d h = omega arith
 count_set p (x ∷ rs) (suc i) r d h = omega (arith, count_set p rs i r d (omega arith))
 
--- the first one that a test holds of is one that it holds of; where there is none, it holds of none
-pub first_holds : (p : List ℕ → Bool) (rs : List (List ℕ)) (d : List ℕ) → first_of p rs < length rs → p (get_or rs (first_of p rs) d) ≡ true
-unfolding first_of
-first_holds p [] d h = absurd (omega arith)
-first_holds p (r ∷ rs) d h = by_test (p r) refl h (first_holds p rs d)
-  where
-    by_test : (b : Bool) → p r ≡ b → cond b 0 (suc (first_of p rs)) < suc (length rs) → (first_of p rs < length rs → p (get_or rs (first_of p rs) d) ≡ true) → p (get_or (r ∷ rs) (cond b 0 (suc (first_of p rs))) d) ≡ true
-    by_test true e k rest = e
-    by_test false e k rest = rest (omega arith)
-
-pub first-none : (p : List ℕ → Bool) (rs : List (List ℕ)) → length rs ≤ first_of p rs → count_if p rs ≡ 0
-unfolding count_if first_of num
+-- where a test holds of no record, by the place of the first one that it holds of
+pub first-none : (p : List ℕ → Bool) (rs : List (List ℕ)) → length rs ≤ position_or_len p rs → count_if p rs ≡ 0
+unfolding count_if num
 first-none p [] h = refl
 first-none p (r ∷ rs) h = by_test (p r) h (first-none p rs)
   where
-    by_test : (b : Bool) → suc (length rs) ≤ cond b 0 (suc (first_of p rs)) → (length rs ≤ first_of p rs → count_if p rs ≡ 0) → num b + count_if p rs ≡ 0
+    by_test : (b : Bool) → suc (length rs) ≤ cond (not b) (1 + position_or_len p rs) 0 → (length rs ≤ position_or_len p rs → count_if p rs ≡ 0) → num b + count_if p rs ≡ 0
     by_test true k rest = absurd (omega arith)
     by_test false k rest = omega (arith, rest (omega arith))
 
--- none before it does
-pub first-before : (p : List ℕ → Bool) (rs : List (List ℕ)) (i : ℕ) (d : List ℕ) → i < first_of p rs → p (get_or rs i d) ≡ false
-unfolding first_of
-first-before p [] i d h = absurd (omega arith)
-first-before p (r ∷ rs) i d h = by_test (p r) refl i h (λ j. first-before p rs j d)
-  where
-    by_test : (b : Bool) → p r ≡ b → (j : ℕ) → j < cond b 0 (suc (first_of p rs)) → ((k : ℕ) → k < first_of p rs → p (get_or rs k d) ≡ false) → p (get_or (r ∷ rs) j d) ≡ false
-    by_test true e j k rest = absurd (omega arith)
-    by_test false e zero k rest = e
-    by_test false e (suc j) k rest = rest j (omega arith)
-
 -- tests that say the same of each record have the same first one
-pub first-same : (p q : List ℕ → Bool) (rs : List (List ℕ)) (d : List ℕ) → ((i : ℕ) → i < length rs → p (get_or rs i d) ≡ q (get_or rs i d)) → first_of p rs ≡ first_of q rs
-unfolding first_of
+pub first-same : (p q : List ℕ → Bool) (rs : List (List ℕ)) (d : List ℕ) → ((i : ℕ) → i < length rs → p (get_or rs i d) ≡ q (get_or rs i d)) → position_or_len p rs ≡ position_or_len q rs
 first-same p q [] d same = refl
-first-same p q (r ∷ rs) d same = ap₂ (λ (b : Bool) (n : ℕ). cond b 0 (suc n)) (same 0 (omega arith)) (first-same p q rs d (λ i h. same (suc i) (omega arith)))
+first-same p q (r ∷ rs) d same = ap₂ (λ (b : Bool) (n : ℕ). cond (not b) (1 + n) 0) (same 0 (omega arith)) (first-same p q rs d (λ i h. same (suc i) (omega arith)))
 
 -- with one record more after them
-pub first_snoc : (p : List ℕ → Bool) (rs : List (List ℕ)) (r : List ℕ) → first_of p rs < length rs → first_of p (rs ++ (r ∷ [])) ≡ first_of p rs
-unfolding first_of
+pub first_snoc : (p : List ℕ → Bool) (rs : List (List ℕ)) (r : List ℕ) → position_or_len p rs < length rs → position_or_len p (rs ++ (r ∷ [])) ≡ position_or_len p rs
 first_snoc p [] r h = absurd (omega arith)
 first_snoc p (x ∷ rs) r h = by_test (p x) h (first_snoc p rs r)
   where
-    by_test : (b : Bool) → cond b 0 (suc (first_of p rs)) < suc (length rs) → (first_of p rs < length rs → first_of p (rs ++ (r ∷ [])) ≡ first_of p rs) → cond b 0 (suc (first_of p (rs ++ (r ∷ [])))) ≡ cond b 0 (suc (first_of p rs))
+    by_test : (b : Bool) → cond (not b) (1 + position_or_len p rs) 0 < suc (length rs) → (position_or_len p rs < length rs → position_or_len p (rs ++ (r ∷ [])) ≡ position_or_len p rs) → cond (not b) (1 + position_or_len p (rs ++ (r ∷ []))) 0 ≡ cond (not b) (1 + position_or_len p rs) 0
     by_test true k rest = refl
-    by_test false k rest = ap suc (rest (omega arith))
+    by_test false k rest = ap (λ (n : ℕ). 1 + n) (rest (omega arith))
 
-pub first_last : (p q : List ℕ → Bool) (rs : List (List ℕ)) (r : List ℕ) → ((x : List ℕ) → q x ≡ true → p x ≡ false) → all_of q rs ≡ true → p r ≡ true → first_of p (rs ++ (r ∷ [])) ≡ length rs
-unfolding first_of all_of
-first_last p q [] r says h e = chosen _ _ _ e
-first_last p q (x ∷ rs) r says h e = passed_over _ _ _ (says x (and_left (q x) (all_of q rs) h)) ∙ ap suc (first_last p q rs r says (and_right (q x) (all_of q rs) h) e)
+pub first_last : (p q : List ℕ → Bool) (rs : List (List ℕ)) (r : List ℕ) → ((x : List ℕ) → q x ≡ true → p x ≡ false) → all_of q rs ≡ true → p r ≡ true → position_or_len p (rs ++ (r ∷ [])) ≡ length rs
+first_last p q [] r says h e = ap (λ (b : Bool). cond (not b) 1 0) e
+first_last p q (x ∷ rs) r says h e =
+    ap₂ (λ (b : Bool) (n : ℕ). cond (not b) (1 + n) 0) (says x (and_left (q x) (all_of q rs) h)) (first_last p q rs r says (and_right (q x) (all_of q rs) h) e) ∙ omega arith
+
+-- the place of the first one as an option
+pub position_none : (p : List ℕ → Bool) (rs : List (List ℕ)) → length rs ≤ position_or_len p rs → position p rs ≡ None
+position_none p rs h = ap (λ (b : Bool). cond b (Some (position_or_len p rs)) None) (le-ltb (position_or_len p rs) (length rs) h)
+
+pub position_some : (p : List ℕ → Bool) (rs : List (List ℕ)) (k : ℕ) → position_or_len p rs ≡ k → k < length rs → position p rs ≡ Some k
+position_some p rs k e h = ap (λ (b : Bool). cond b (Some (position_or_len p rs)) None) (lt-ltb (position_or_len p rs) (length rs) (omega arith)) ∙ ap Some e
+
+pub found_within : (p : List ℕ → Bool) (rs : List (List ℕ)) (k : ℕ) → Some k ≡ position p rs → k < length rs
+found_within p rs k e =
+    by_either (ltb (position_or_len p rs) (length rs))
+    (λ h. let f : Some k ≡ Some (position_or_len p rs) = e ∙ ap (λ (b : Bool). cond b (Some (position_or_len p rs)) None) h in let same : k ≡ position_or_len p rs = cc in omega (arith, ltb-true (position_or_len p rs) (length rs) h))
+    (λ h. let f : Some k ≡ None = e ∙ ap (λ (b : Bool). cond b (Some (position_or_len p rs)) None) h in absurd (cc))
+
+-- the first one that a test holds of, where there is none and where there is one
+pub none_found : (p : List ℕ → Bool) (rs : List (List ℕ)) → is_none (position p rs) ≡ true → length rs ≤ position_or_len p rs
+none_found p rs e = by_either (ltb (position_or_len p rs) (length rs)) (λ h. clash {b = is_none (position p rs)} e (ap (λ (b : Bool). is_none (cond b (Some (position_or_len p rs)) None)) h)) (λ h. ltb-false (position_or_len p rs) (length rs) h)
+
+pub one_found : (p : List ℕ → Bool) (rs : List (List ℕ)) → is_none (position p rs) ≡ false → (position_or_len p rs < length rs) × ((d : ℕ) → unwrap_or (position p rs) d ≡ position_or_len p rs)
+one_found p rs e =
+    by_either (ltb (position_or_len p rs) (length rs))
+    (λ h. (ltb-true (position_or_len p rs) (length rs) h, λ d. ap (λ (b : Bool). unwrap_or (cond b (Some (position_or_len p rs)) None) d) h))
+    (λ h. clash {b = is_none (position p rs)} (ap (λ (b : Bool). is_none (cond b (Some (position_or_len p rs)) None)) h) e)
 
 -- a test holds of all records if another does that says so of each
 pub all-within : (p q : List ℕ → Bool) (rs : List (List ℕ)) → ((r : List ℕ) → p r ≡ true → q r ≡ true) → all_of p rs ≡ true → all_of q rs ≡ true
-unfolding all_of
 all-within p q [] says h = refl
 all-within p q (r ∷ rs) says h = ap₂ (λ (a b : Bool). a && b) (says r (and_left (p r) (all_of p rs) h)) (all-within p q rs says (and_right (p r) (all_of p rs) h))
 
 -- a test that holds of none
 pub none-all : (p : List ℕ → Bool) (rs : List (List ℕ)) → count_if p rs ≡ 0 → all_of (λ r. not (p r)) rs ≡ true
-unfolding all_of count_if num
+unfolding count_if num
 none-all p [] h = refl
 none-all p (r ∷ rs) h = by_test (p r) h (none-all p rs)
   where
@@ -139,24 +144,20 @@ none-all p (r ∷ rs) h = by_test (p r) h (none-all p rs)
 
 -- two tests at once
 pub all_both : (p q : List ℕ → Bool) (rs : List (List ℕ)) → all_of p rs ≡ true → all_of q rs ≡ true → all_of (λ r. p r && q r) rs ≡ true
-unfolding all_of
 all_both p q [] h k = refl
 all_both p q (r ∷ rs) h k =
     ap₂ (λ (a b : Bool). a && b) (ap₂ (λ (a b : Bool). a && b) (and_left (p r) (all_of p rs) h) (and_left (q r) (all_of q rs) k)) (all_both p q rs (and_right (p r) (all_of p rs) h) (and_right (q r) (all_of q rs) k))
 
 -- of one record more, of records changed by a function, or where one is another
 pub all_snoc : (p : List ℕ → Bool) (rs : List (List ℕ)) (r : List ℕ) → all_of p rs ≡ true → p r ≡ true → all_of p (rs ++ (r ∷ [])) ≡ true
-unfolding all_of
 all_snoc p [] r h e = ap (λ (b : Bool). b && true) e
 all_snoc p (x ∷ rs) r h e = ap₂ (λ (a b : Bool). a && b) (and_left (p x) (all_of p rs) h) (all_snoc p rs r (and_right (p x) (all_of p rs) h) e)
 
 pub all_map : (p : List ℕ → Bool) (f : List ℕ → List ℕ) (rs : List (List ℕ)) → all_of p (map f rs) ≡ all_of (λ r. p (f r)) rs
-unfolding all_of
 all_map p f [] = refl
 all_map p f (r ∷ rs) = ap (λ (b : Bool). p (f r) && b) (all_map p f rs)
 
 pub all_set : (p : List ℕ → Bool) (rs : List (List ℕ)) (i : ℕ) (r : List ℕ) → all_of p rs ≡ true → p r ≡ true → all_of p (set rs i r) ≡ true
-unfolding all_of
 all_set p [] i r h e = refl
 all_set p (x ∷ rs) zero r h e = ap₂ (λ (a b : Bool). a && b) e (and_right (p x) (all_of p rs) h)
 all_set p (x ∷ rs) (suc i) r h e = ap₂ (λ (a b : Bool). a && b) (and_left (p x) (all_of p rs) h) (all_set p rs i r (and_right (p x) (all_of p rs) h) e)

@@ -22,7 +22,7 @@ use Rattle.record.specs.Matching.{matching}
 use Rattle.record.specs.Gone.{expired, freed_if}
 use Rattle.record.specs.WellFormed.{widths, within, ranges_fit, marked, complete, rest_fits, well_formed}
 use Rattle.record_report.specs.Made.{record_of}
-use Rattle.lent.specs.Records.{chunks, records, all_of}
+use Rattle.lent.specs.Records.{chunks, records}
 use Rattle.lent.specs.Table.{sized, table_fits}
 use Rattle.lent.specs.Catalogue.{entry_fits, catalogue_fits}
 use Rattle.lent.specs.Lives.{lives_fit}
@@ -30,28 +30,30 @@ use Rattle.lent.specs.Lent.{lent_fit}
 use Rattle.classes.specs.Events.{additional_events, events_of}
 use Rattle.classes.specs.Classes.{event_classes, classes_of}
 use Rattle.checks.specs.declared.Arrival.{Arrival}
-use Rattle.checks.specs.Checks.{asked_fit, later_refusal, check_refusal}
+use Rattle.checks.specs.Checks.{asked_fit, check_answer}
 use Rattle.table.specs.declared.WhenFull.TheVariants.{Drop}
-use Rattle.table.specs.declared.Answer.TheVariants.{Freed, Stored, Refused}
-use Rattle.table.specs.Records.{count_if, first_of, over, count_where, lowest_free, soonest, stored}
+use Rattle.std.specs.Prelude.{Ok, Err}
+use Rattle.refusal.specs.declared.Refusal.TheVariants.{ForeignLocation}
+use Rattle.table.specs.declared.Answer.TheVariants.{Freed, Stored}
+use Rattle.table.specs.Records.{count_if, over, count_where, lowest_free, soonest, stored}
 use Rattle.table.specs.Steps.{step, after_matching, matched_in, free_in, place_in, after_storing}
-use Rattle.table.specs.Expire.{expire_refusal, expire_step, expire_table}
-use Rattle.table.specs.Take.{matches, take_refusal, storing_answer, taken_step, taken_table, take_step, take_table}
+use Rattle.table.specs.Expire.{expire_answer, expire_step, expire_table}
+use Rattle.table.specs.Take.{matches, storing_answer, taken_answer, taken_table, take_answer, take_step, take_table}
 
 -- names what the examples compute with
 unfoldable pub computing : Unit {0}
-unfolding bit bits flat all_zero num widths within ranges_fit marked complete rest_fits well_formed expired freed_if chunks records joined all_of count_if over count_where sized table_fits expire_refusal expire_step expire_table matching first_of lowest_free entry_fits catalogue_fits lives_fit fits offset_fits filled well_placed all_zero_items zero_item single_fits fits_by report_fits lent_fit is_flt flt_fields unpack val location_of inter_road items_at real_fits asked_fit later_refusal check_refusal matches after_matching matched_in free_in place_in take_refusal storing_answer taken_step take_step listed item_bits packing all_fit last_zero packable writable first_where real_bits content_of agrees items_fit content_fits multi_fits foreign soonest stored after_storing taken_table take_table words record_of bytes_of groups_for groups_of expiry_of set_of additional_events events_of event_classes classes_of
+unfolding bit bits flat all_zero num widths within ranges_fit marked complete rest_fits well_formed expired freed_if chunks records joined count_if over count_where sized table_fits expire_answer expire_table matching lowest_free entry_fits catalogue_fits lives_fit fits offset_fits filled well_placed all_zero_items zero_item single_fits fits_by report_fits lent_fit is_flt flt_fields unpack val location_of inter_road items_at real_fits asked_fit check_answer matches after_matching matched_in free_in place_in storing_answer taken_answer take_answer listed item_bits packing all_fit last_zero packable writable first_where real_bits content_of agrees items_fit content_fits multi_fits foreign soonest stored after_storing taken_table take_table words record_of bytes_of groups_for groups_of expiry_of set_of additional_events events_of event_classes classes_of
 computing = tt
 
 -- a record of class 1 that ends at a minute
 abbrev pub until : ℕ → List ℕ
 until minute = (1 ∷ 1 ∷ replicate 10 0) ++ (four_bytes minute ++ (replicate 18 0 ++ eight_bytes 2))
 
-pub stays_at_99 : (expire_step (until 100) 0 99 ≡ step 99 (Freed 0 0)) × (expire_table (until 100) 0 99 ≡ until 100)
+pub stays_at_99 : (expire_step (until 100) 0 99 ≡ step 99 (Ok (Freed 0 0))) × (expire_table (until 100) 0 99 ≡ until 100)
 unfolding computing
 stays_at_99 = (refl, refl)
 
-pub goes_at_100 : (expire_step (until 100) 0 100 ≡ step 100 (Freed 1 0)) × (expire_table (until 100) 0 100 ≡ free_record)
+pub goes_at_100 : (expire_step (until 100) 0 100 ≡ step 100 (Ok (Freed 1 0))) × (expire_table (until 100) 0 100 ≡ free_record)
 unfolding computing
 goes_at_100 = (refl, refl)
 
@@ -66,11 +68,11 @@ catalogue = replicate 2048 65
 abbrev pub lives : List ℕ
 lives = replicate 16 60
 
-pub own_location : take_step free_record catalogue lives 0 (arrival 0xFBFF) (pos 0) Drop ≡ step 0 (Stored 0 0 0)
+pub own_location : take_step free_record catalogue lives 0 (arrival 0xFBFF) (pos 0) Drop ≡ step 0 (Ok (Stored 0 0 0))
 unfolding computing
 own_location = refl
 
-pub foreign-location : take_step free_record catalogue lives 0 (arrival 0xFC00) (pos 0) Drop ≡ step 0 (Refused 12)
+pub foreign-location : take_step free_record catalogue lives 0 (arrival 0xFC00) (pos 0) Drop ≡ step 0 (Err ForeignLocation)
 unfolding computing
 foreign-location = refl
 
@@ -78,10 +80,10 @@ foreign-location = refl
 abbrev pub inter_road_arrival : ℕ → Arrival
 inter_road_arrival real = record { report = multi_report (record { direction = 0; extent = 0; event = 0; location = 0xFF41 }) real []; service = record { country = 1; ltn = 1; sid = 1 }; minute = record { 0 = 0 } }
 
-pub real_location : take_step free_record catalogue lives 0 (inter_road_arrival 0xFBFF) (pos 0) Drop ≡ step 0 (Stored 0 0 0)
+pub real_location : take_step free_record catalogue lives 0 (inter_road_arrival 0xFBFF) (pos 0) Drop ≡ step 0 (Ok (Stored 0 0 0))
 unfolding computing
 real_location = refl
 
-pub no_real_location : take_step free_record catalogue lives 0 (inter_road_arrival 0xFC00) (pos 0) Drop ≡ step 0 (Refused 12)
+pub no_real_location : take_step free_record catalogue lives 0 (inter_road_arrival 0xFC00) (pos 0) Drop ≡ step 0 (Err ForeignLocation)
 unfolding computing
 no_real_location = refl

@@ -1,7 +1,7 @@
 -- Freeing by one test and then by another, which holds of no free record, is freeing by either at once.
 use Prim.Native.Nat.{ℕ, ◌+◌, ◌-◌, ◌*◌, ◌/◌, ◌%◌, ◌≤◌, ◌<◌}
 use native.Mathlib.Omega.{arith}
-use mathlib.Core.Path.{◌≡◌, refl, sym, ap, ap₂, ◌∙◌}
+use mathlib.Core.Path.{◌≡◌, refl, sym, ap, ap₂, subst, ◌∙◌}
 use mathlib.Core.Bool.{Bool, true, false, cond, not, ◌&&◌, ◌||◌, or-false}
 use mathlib.Core.List.{List, [], ◌∷◌, map}
 use lib.ListN.{length, take, drop, get_or, length-map, get_or-map}
@@ -12,10 +12,12 @@ use Rattle.record.specs.Layout.{record_size, free_record, is_free}
 use Rattle.record.specs.Gone.{expired, either, only_second, freed_if, one_record}
 use Rattle.record.proofs.Steps.{freed, unfreed, one_record_lem, one_freed}
 use Rattle.lent.specs.Records.{chunks, records, all_of}
-use Rattle.table.specs.Records.{count_if, first_of, over, free_where, count_where, lowest_free}
-use Rattle.table.specs.Steps.{after_matching, matched_in, free_in}
-use Rattle.table.proofs.Counts.{num_le, count_le, count_map, count_none, count-either, count-within, first-none, none-all}
-use Rattle.table.proofs.Sweeps.{Keeps, length-chunks, length-records, swept, part_sized, swept_next, count_next, length_over, records-over, over-over}
+use Rattle.std.specs.List.{position, position_or_len}
+use Rattle.std.specs.Option.{is_none}
+use Rattle.table.specs.Records.{count_if, over, free_where, count_where, lowest_free}
+use Rattle.table.specs.Steps.{after_matching, matched_in, free_in, no_room}
+use Rattle.table.proofs.Counts.{num_le, count_le, count_map, count_none, count-either, count-within, first-none, none_found, none-all}
+use Rattle.table.proofs.Sweeps.{Keeps, length-chunks, swept, part_sized, swept_next, count_next, length_over, records-over, over-over}
 use Rattle.table.proofs.Storing.{joined-records}
 
 -- by a test, a record is freed or as it was
@@ -47,7 +49,7 @@ module _ (p : List ℕ → Bool) where
       by_test false e k rest = ap₂ (λ (x : List ℕ) (xs : List (List ℕ)). x ∷ xs) (sym (unfreed p r e).1) (rest (omega arith))
 
   -- where no record is free afterwards, the test holds of none
-  pub none_left : (rs : List (List ℕ)) → length rs ≤ first_of is_free (map (freed_if p) rs) → count_if p rs ≡ 0
+  pub none_left : (rs : List (List ℕ)) → length rs ≤ position_or_len is_free (map (freed_if p) rs) → count_if p rs ≡ 0
   none_left rs h =
       let none : count_if (λ r. is_free (freed_if p r)) rs ≡ 0 = sym (count_map is_free (λ r. is_free (freed_if p r)) (freed_if p) rs (λ r. refl)) ∙ first-none is_free (map (freed_if p) rs) (omega (arith, length-map rs (freed_if p))) in
       omega (arith, count-within p (λ r. is_free (freed_if p r)) rs (λ r e. ap is_free (sym (freed p r e).1)))
@@ -120,14 +122,17 @@ module _ (minute : ℕ) (q : List ℕ → Bool) (never : q free_record ≡ false
   pub records_both : records (after_matching minute q t) ≡ map (freed_if (either (expired minute) q)) (records t)
   records_both = ap records both_at_once ∙ records-over (freed_if (either (expired minute) q)) (freed-keeps (either (expired minute) q)) t whole
 
-  pub free_is : free_in minute q t ≡ first_of is_free (map (freed_if (either (expired minute) q)) (records t))
+  pub free_is : free_in minute q t ≡ position is_free (map (freed_if (either (expired minute) q)) (records t))
   unfolding free_in lowest_free
-  free_is = ap (first_of is_free) records_both
+  free_is = ap (position is_free) records_both
 
   -- where there is no room
-  module _ (full : length t / record_size ≤ free_in minute q t) where
+  module _ (full : no_room minute q t ≡ true) where
+    none_free : length (map (freed_if (either (expired minute) q)) (records t)) ≤ position_or_len is_free (map (freed_if (either (expired minute) q)) (records t))
+    none_free = none_found is_free (map (freed_if (either (expired minute) q)) (records t)) (sym (ap is_none free_is) ∙ full)
+
     none-either : count_if (either (expired minute) q) (records t) ≡ 0
-    none-either = none_left (either (expired minute) q) (records t) (omega (arith, length-records t, free_is))
+    none-either = none_left (either (expired minute) q) (records t) (omega (arith, none_free, length-map (records t) (freed_if (either (expired minute) q))))
 
     pub as_they_were : map (freed_if (either (expired minute) q)) (records t) ≡ records t
     as_they_were = none-freed (either (expired minute) q) (records t) none-either
@@ -144,7 +149,7 @@ module _ (minute : ℕ) (q : List ℕ → Bool) (never : q free_record ≡ false
     none_matched = omega (arith, none-either, count-either (expired minute) q (records t))
 
     pub all-used : all_of (λ r. not (is_free r)) (records t) ≡ true
-    all-used = none-all is_free (records t) (first-none is_free (records t) (omega (arith, length-records t, free_is ∙ ap (first_of is_free) as_they_were)))
+    all-used = none-all is_free (records t) (first-none is_free (records t) (subst (λ (rs : List (List ℕ)). length rs ≤ position_or_len is_free rs) as_they_were none_free))
 
 -- where nothing matches, step 2 does nothing
 module _ (minute : ℕ) (t : List ℕ) (whole : length t % record_size ≡ 0) where

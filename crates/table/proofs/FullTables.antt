@@ -11,7 +11,9 @@ use Rattle.checks.specs.declared.Arrival.{Arrival}
 use Rattle.table.specs.declared.Step.{Step}
 use Rattle.table.specs.declared.WhenFull.{WhenFull}
 use Rattle.table.specs.declared.WhenFull.TheVariants.{Drop, Keep}
-use Rattle.table.specs.declared.Answer.TheVariants.{Freed, Stored, Dropped, Refused}
+use Rattle.table.specs.declared.Answer.TheVariants.{Freed, Stored, Dropped}
+use Rattle.std.specs.Prelude.{Ok, Err}
+use Rattle.refusal.specs.declared.Refusal.TheVariants.{UnknownEvent, NoRoom}
 use Rattle.table.specs.Steps.{step}
 use Rattle.table.specs.Take.{take_step, take_table}
 use Rattle.table.proofs.Examples.{computing, until, lives}
@@ -45,20 +47,20 @@ Taking full event t answered after = (take_step t catalogue lives 7 (arriving ev
 
 pub full_tables :
     -- a tie drops the lowest-numbered, and else the one that ends soonest, though the new one ends sooner
-    Taking Drop ordinary (until 100 ++ until 100) (step 30 (Dropped 0)) (jam 90 ++ until 100)
-    × Taking Drop ordinary (until 120 ++ until 90) (step 30 (Dropped 1)) (until 120 ++ jam 90)
-    × Taking Drop ordinary (until 120 ++ (until 110 ++ until 110)) (step 30 (Dropped 1)) (until 120 ++ (jam 90 ++ until 110))
-    × Taking Drop ordinary (until 4294967295) (step 30 (Dropped 0)) (jam 90)
+    Taking Drop ordinary (until 100 ++ until 100) (step 30 (Ok (Dropped 0))) (jam 90 ++ until 100)
+    × Taking Drop ordinary (until 120 ++ until 90) (step 30 (Ok (Dropped 1))) (until 120 ++ jam 90)
+    × Taking Drop ordinary (until 120 ++ (until 110 ++ until 110)) (step 30 (Ok (Dropped 1))) (until 120 ++ (jam 90 ++ until 110))
+    × Taking Drop ordinary (until 4294967295) (step 30 (Ok (Dropped 0))) (jam 90)
     -- all are kept
-    × Taking Keep ordinary (until 100 ++ until 100) (step 7 (Refused 14)) (until 100 ++ until 100)
-    × Taking Keep unknown (until 100 ++ until 100) (step 7 (Refused 11)) (until 100 ++ until 100)
-    × Taking Drop unknown (until 100 ++ until 100) (step 7 (Refused 11)) (until 100 ++ until 100)
+    × Taking Keep ordinary (until 100 ++ until 100) (step 7 (Err NoRoom)) (until 100 ++ until 100)
+    × Taking Keep unknown (until 100 ++ until 100) (step 7 (Err UnknownEvent)) (until 100 ++ until 100)
+    × Taking Drop unknown (until 100 ++ until 100) (step 7 (Err UnknownEvent)) (until 100 ++ until 100)
     -- one matches, has expired, or was free: none is dropped
-    × Taking Drop ordinary (until 100 ++ jam 120) (step 30 (Stored 0 1 1)) (until 100 ++ jam 90)
-    × Taking Drop ordinary (until 100 ++ until 30) (step 30 (Stored 1 0 1)) (until 100 ++ jam 90)
-    × Taking Drop ordinary (until 100 ++ free_record) (step 30 (Stored 0 0 1)) (until 100 ++ jam 90)
+    × Taking Drop ordinary (until 100 ++ jam 120) (step 30 (Ok (Stored 0 1 1))) (until 100 ++ jam 90)
+    × Taking Drop ordinary (until 100 ++ until 30) (step 30 (Ok (Stored 1 0 1))) (until 100 ++ jam 90)
+    × Taking Drop ordinary (until 100 ++ free_record) (step 30 (Ok (Stored 0 0 1))) (until 100 ++ jam 90)
     -- a cancelling and a null event drop none
-    × Taking Drop cancelling (until 100 ++ until 120) (step 30 (Freed 0 0)) (until 100 ++ until 120)
-    × Taking Drop null (until 100 ++ until 120) (step 30 (Freed 0 0)) (until 100 ++ until 120)
+    × Taking Drop cancelling (until 100 ++ until 120) (step 30 (Ok (Freed 0 0))) (until 100 ++ until 120)
+    × Taking Drop null (until 100 ++ until 120) (step 30 (Ok (Freed 0 0))) (until 100 ++ until 120)
 unfolding computing
 full_tables = ((refl, refl), (refl, refl), (refl, refl), (refl, refl), (refl, refl), (refl, refl), (refl, refl), (refl, refl), (refl, refl), (refl, refl), (refl, refl), (refl, refl))

@@ -1,9 +1,11 @@
-pub mod Searching
+pub mod Matching
 pub mod Counts
 pub mod Sweeps
+pub mod Passing
 pub mod Soonest
 pub mod Storing
 pub mod Freeing
+pub mod Searching
 pub mod Storable
 pub mod Takes
 pub mod Accepted

@@ -3,18 +3,19 @@ use Prim.Native.Nat.{ℕ, zero, suc, ◌+◌, ◌-◌, ◌/◌, ◌≤◌, ◌<�
 use native.Mathlib.Numerals.{add-one}
 use native.Mathlib.Omega.{arith}
 use mathlib.Core.Path.{◌≡◌, refl, sym, ap, subst, subst₂, ◌∙◌}
-use mathlib.Core.Bool.{Bool, true, false, ◌&&◌}
+use mathlib.Core.Bool.{Bool, true, false, cond, not, ◌&&◌}
 use mathlib.Core.List.{List, [], ◌∷◌, ◌++◌}
 use lib.ListN.{length, get_or, length-append}
 use lib.Dec.{leb}
 use borrow.Author.Tests.{leb-true, leb-false, le-leb, lt-leb}
-use Rattle.bits.proofs.Choice.{chosen}
 use Rattle.record.specs.Layout.{record_size, free_record, expiry_in}
 use Rattle.lent.specs.Records.{chunks, records, all_of}
 use Rattle.lent.proofs.Lents.{all_at}
 use Rattle.lent.proofs.Passes.{nth}
-use Rattle.table.specs.Records.{first_of, soonest}
-use Rattle.table.proofs.Counts.{first_holds, first-before, first-same, first_snoc, first_last, all-within, all_snoc}
+use Rattle.std.specs.List.{position_or_len}
+use Rattle.std.proofs.lemmas.List.Sums.{passes_at_first, fails_before_first}
+use Rattle.table.specs.Records.{soonest}
+use Rattle.table.proofs.Counts.{first-same, first_snoc, first_last, all-within, all_snoc}
 use Rattle.table.proofs.Sweeps.{chunks-suc, length-chunks}
 
 -- the records that end at a minute or before it
@@ -24,7 +25,7 @@ ends_by m r = leb (expiry_in r) m
 -- no record ends before minute m, and the first one that ends by it is in this place
 pub record Least (rs : List (List ℕ)) (place m : ℕ) : Type 0 where
   low : all_of (λ x. leb m (expiry_in x)) rs ≡ true
-  found : first_of (ends_by m) rs ≡ place
+  found : position_or_len (ends_by m) rs ≡ place
   inside : place < length rs
 
 module _ {rs : List (List ℕ)} {place m : ℕ} (least : Least rs place m) where
@@ -33,7 +34,7 @@ module _ {rs : List (List ℕ)} {place m : ℕ} (least : Least rs place m) where
   end i = expiry_in (get_or rs i free_record)
 
   ends_at : end place ≤ m
-  ends_at = subst (λ (n : ℕ). end n ≤ m) least.found (leb-true (end (first_of (ends_by m) rs)) m (first_holds (ends_by m) rs free_record (subst (λ (n : ℕ). n < length rs) (sym least.found) least.inside)))
+  ends_at = subst (λ (n : ℕ). end n ≤ m) least.found (leb-true (end (position_or_len (ends_by m) rs)) m (passes_at_first (ends_by m) rs free_record (subst (λ (n : ℕ). n < length rs) (sym least.found) least.inside)))
 
   low_at : (i : ℕ) → i < length rs → m ≤ end i
   low_at i h = leb-true m (end i) (all_at (λ x. leb m (expiry_in x)) rs i free_record least.low h)
@@ -56,7 +57,7 @@ module _ {rs : List (List ℕ)} {place m : ℕ} (least : Least rs place m) where
   none_sooner i h = omega (arith, ends_at, low_at i h)
 
   later-before : (i : ℕ) → i < place → end place < end i
-  later-before i h = omega (arith, ends_at, leb-false (end i) m (first-before (ends_by m) rs i free_record (subst (λ (n : ℕ). i < n) (sym least.found) h)))
+  later-before i h = omega (arith, ends_at, leb-false (end i) m (fails_before_first (ends_by m) rs i free_record (subst (λ (n : ℕ). i < n) (sym least.found) h)))
 
   -- one record more: it ends sooner, or not
   least-new : (r : List ℕ) → expiry_in r < m → Least (rs ++ (r ∷ [])) (length rs) (expiry_in r)
@@ -75,10 +76,9 @@ module _ {rs : List (List ℕ)} {place m : ℕ} (least : Least rs place m) where
 
 -- one record alone
 least_one : (r : List ℕ) → Least (r ∷ []) 0 (expiry_in r)
-unfolding all_of first_of
 least_one r =
     let self = le-leb (expiry_in r) (expiry_in r) (omega arith) in
-    record { low = ap (λ (b : Bool). b && true) self; found = chosen _ _ _ self; inside = omega arith }
+    record { low = ap (λ (b : Bool). b && true) self; found = ap (λ (b : Bool). cond (not b) 1 0) self; inside = omega arith }
 
 -- among the first records of a table, with one more
 module _ (t : List ℕ) (i : ℕ) {place m : ℕ} (least : Least (chunks (suc i) t) place m) where
@@ -143,6 +143,6 @@ module _ (t : List ℕ) (place m : ℕ) where
       next (suc j) s h small = later-next t j s h
 
   pub sought_all : (i : ℕ) → Sought t i place m → soonest (chunks i t) ≡ place
-  unfolding soonest first_of chunks
+  unfolding soonest chunks
   sought_all zero s = sym s.0
   sought_all (suc i) s = soonest_is s

@@ -1,8 +1,8 @@
 -- The calls on a table, with one catalogue: a report is taken, or records expire (documents 01, "The message table", and 02, R-6).
-use Rattle.std.specs.Prelude.{ℕ, Bool, false, not, List, ℤ, eqb}
+use Rattle.std.specs.Prelude.{ℕ, Bool, false, not, List, ℤ}
 use Rattle.record.specs.Layout.{free_record}
 use Rattle.checks.specs.declared.Arrival.{Arrival}
-use Rattle.checks.specs.Events.{kind_for}
+use Rattle.checks.specs.Events.{is_ordinary, kind_for}
 use Rattle.table.specs.declared.Step.{Step}
 use Rattle.table.specs.declared.WhenFull.{WhenFull}
 use Rattle.table.specs.Expire.{expire_step, expire_table}
@@ -34,7 +34,7 @@ match_of catalogue (expiring minute) = λ r. false
 
 -- whether it stores a record, and which
 abbrev pub stores_of : List ℕ → Call → Bool
-stores_of catalogue (taking a lto lives full) = eqb (kind_for catalogue a.report) 1
+stores_of catalogue (taking a lto lives full) = is_ordinary (kind_for catalogue a.report)
 stores_of catalogue (expiring minute) = false
 
 abbrev pub made_of : List ℕ → Call → List ℕ

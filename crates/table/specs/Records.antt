@@ -1,5 +1,6 @@
 -- The records of a table counted, searched and changed (documents 01, "The message table", and 02, R-6).
-use Rattle.std.specs.Prelude.{ℕ, suc, ◌+◌, Bool, cond, List, [], ◌∷◌, map, set, leb}
+use Rattle.std.specs.Prelude.{ℕ, ◌+◌, Bool, List, [], ◌∷◌, map, set, leb, Option}
+use Rattle.std.specs.List.{position, position_or_len}
 use Rattle.bits.specs.Bits.{num}
 use Rattle.bits.specs.Lists.{joined}
 use Rattle.record.specs.Layout.{is_free, expiry_in}
@@ -10,11 +11,6 @@ use Rattle.lent.specs.Records.{records, all_of}
 unfoldable pub count_if : (List ℕ → Bool) → List (List ℕ) → ℕ
 count_if p [] = 0
 count_if p (r ∷ rs) = num (p r) + count_if p rs
-
--- the place of the first one that a test holds of; their number where there is none
-unfoldable pub first_of : (List ℕ → Bool) → List (List ℕ) → ℕ
-first_of p [] = 0
-first_of p (r ∷ rs) = cond (p r) 0 (suc (first_of p rs))
 
 -- a pass: the table with every record changed by a function
 unfoldable pub over : (List ℕ → List ℕ) → List ℕ → List ℕ
@@ -27,13 +23,13 @@ free_where p = over (freed_if p)
 unfoldable pub count_where : (List ℕ → Bool) → List ℕ → ℕ
 count_where p t = count_if p (records t)
 
--- the lowest-numbered free record
-unfoldable pub lowest_free : List ℕ → ℕ
-lowest_free t = first_of is_free (records t)
+-- the lowest-numbered free record, if there is one
+unfoldable pub lowest_free : List ℕ → Option ℕ
+lowest_free t = position is_free (records t)
 
 -- the record that ends soonest, the lowest-numbered on a tie: the first one whose expiry is at most that of each
 unfoldable pub soonest : List (List ℕ) → ℕ
-soonest rs = first_of (λ r. all_of (λ x. leb (expiry_in r) (expiry_in x)) rs) rs
+soonest rs = position_or_len (λ r. all_of (λ x. leb (expiry_in r) (expiry_in x)) rs) rs
 
 -- the table with a record stored in a place
 unfoldable pub stored : List ℕ → ℕ → List ℕ → List ℕ

@@ -10,19 +10,14 @@ use record::fields::expiry;
 pub(crate) fn find_soonest(t: &[u8]) -> usize
     ensures { result ≡ soonest (records t.now) }
 {
-    let n = t.len() / Record::SIZE;
     let mut place = 0;
     let mut least = u32::MAX;
-    let mut i = 0;
-    while i < n {
-        let a = i * Record::SIZE;
-        let e = a + Record::SIZE;
-        let end = expiry(&t[a..e]);
+    for (i, record) in t.chunks_exact(Record::SIZE).enumerate() {
+        let end = expiry(record);
         if end.0 < least {
             least = end.0;
             place = i;
         }
-        i += 1;
     }
     place
 }

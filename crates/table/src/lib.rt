@@ -2,7 +2,7 @@
 #![tactic(auto)]
 
 ghost use Rattle.std.specs.Prelude.{◌≡◌};
-ghost use Rattle.table.specs.declared.Answer.TheVariants.{Refused};
+ghost use Rattle.table.specs.Steps.{stepped};
 
 mod drop;
 mod expire;
@@ -12,18 +12,20 @@ mod sweep;
 mod take;
 
 use clock::Utc;
+use refusal::Refusal;
 
 // What a take does where there is no room: it drops the record that ends soonest, which is the default, or keeps all and refuses the
 // report (14).
-#[derive(Clone, Copy)]
+#[derive(Clone, Copy, Debug, Default, PartialEq, Eq)]
 pub enum WhenFull {
+    #[default]
     Drop,
     Keep,
 }
 
 // How many records a call freed as expired and as matching, and where it stored the report; or where it dropped a record, none having
-// expired or matched, and stored the report; or the refusal's number.
-#[derive(Clone, Copy)]
+// expired or matched, and stored the report.
+#[derive(Clone, Copy, Debug, PartialEq, Eq)]
 pub enum Answer {
     Freed {
         expired: usize,
@@ -37,26 +39,28 @@ pub enum Answer {
     Dropped {
         place: usize,
     },
-    Refused(u8),
 }
 
 // The last accepted minute, and the answer.
 #[derive(Clone, Copy)]
 pub struct Step {
     pub last: Utc,
-    pub answer: Answer,
+    pub answer: Result<Answer, Refusal>,
+}
+
+impl Step {
+    // The step of a call at a minute: a refusal leaves the last accepted minute.
+    fn at(last: Utc, minute: Utc, answer: Result<Answer, Refusal>) -> Self
+        ensures { result ≡ stepped last.0 minute.0 answer }
+    {
+        let accepted = if answer.is_ok() { minute } else { last };
+        Step {
+            last: accepted,
+            answer,
+        }
+    }
 }
 
 // The calls on a table.
 #[derive(Clone, Copy)]
 pub struct Table;
-
-// A refusal: the last accepted minute stays.
-pub(crate) fn refused(last: Utc, number: u8) -> Step
-    ensures { result ≡ record { last = last; answer = Refused number } }
-{
-    Step {
-        last,
-        answer: Answer::Refused(number),
-    }
-}

@@ -4,19 +4,19 @@ ghost use Rattle.table.specs.Records.{lowest_free};
 
 use record::Record;
 
-// The lowest-numbered free record, or the number of records where there is none.
-pub(crate) fn find_free(t: &[u8]) -> usize
+// The lowest-numbered free record, if there is one. The rules of the project ask for a search loop here that yields the place by break.
+pub(crate) fn find_free(t: &[u8]) -> Option<usize>
     ensures { result ≡ lowest_free t.now }
 {
     let n = t.len() / Record::SIZE;
     let mut i = 0;
     loop {
         if i == n {
-            break i;
+            break None;
         }
         let a = i * Record::SIZE;
         if t[a] == 0 {
-            break i;
+            break Some(i);
         }
         i += 1;
     }

@@ -14,14 +14,12 @@ pub(crate) fn sweep_expired(t: &mut [u8], minute: Utc) -> usize
     ensures value { result ≡ expired_in minute.0 t.old }
     ensures t_after { t.new ≡ after_expiry minute.0 t.old }
 {
-    let n = t.len() / Record::SIZE;
     let mut expired = 0;
-    let mut i = 0;
-    while i < n {
+    // By places: of what `chunks_exact_mut` lends to be written, a proof knows nothing afterwards.
+    for i in 0..t.len() / Record::SIZE {
         let a = i * Record::SIZE;
         let e = a + Record::SIZE;
         expired += free_expired(&mut t[a..e], minute);
-        i += 1;
     }
     expired
 }
@@ -36,14 +34,12 @@ pub(crate) fn sweep_gone(t: &mut [u8], minute: Utc, key: Key) -> Freed
     // The expired records are counted down from all: two counts that go the same way are kept in memory as one vector.
     let mut unexpired = records;
     let mut matched = 0;
-    let mut i = 0;
-    while i < records {
+    for i in 0..records {
         let a = i * Record::SIZE;
         let e = a + Record::SIZE;
         let freed = free_gone(&mut t[a..e], minute, key);
         unexpired -= freed.expired;
         matched += freed.matched;
-        i += 1;
     }
     Freed {
         expired: records - unexpired,

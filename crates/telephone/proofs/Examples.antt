@@ -4,14 +4,20 @@ use mathlib.Core.Path.{◌≡◌, refl}
 use mathlib.Core.Bool.{cond}
 use mathlib.Core.List.{List, [], ◌∷◌, map}
 use lib.Dec.{eqb}
-use Rattle.labels.specs.Rows.{dues, width, by_value, next}
-use Rattle.telephone.specs.Meaning.{nothing, item, telephone, character, options, switch, ended, costs, in_currency, is_place, meaning_of}
+use Rattle.labels.specs.Telephone.{number_codes, letter_codes}
+use Rattle.labels.specs.Rows.{label_rows, code_row, cost_rows, rows, width, due, next}
+use Rattle.telephone.specs.Keys.{keys, letter_key}
+use Rattle.telephone.specs.Meaning.{nothing, item, telephone, character, options, switch, ended, costs, in_currency, sign_of, is_place, meaning_of}
 use Rattle.telephone.specs.declared.Meaning.{Meaning}
-use Rattle.telephone.proofs.Tables.{computing}
+
+-- names what the rows' widths and meanings compute with
+unfoldable pub computing : Unit {0}
+unfolding number_codes letter_codes label_rows code_row cost_rows rows width due next keys letter_key sign_of is_place meaning_of
+computing = tt
 
 -- what rows and values mean
 unfoldable pub meanings : List (ℕ × ℕ) → List Meaning
-unfolding computing dues width by_value next is_place meaning_of
+unfolding computing
 meanings = map (λ p. meaning_of p.0 p.1)
 
 -- a field of the characters

@@ -1,4 +1,2 @@
-pub mod Tables
-pub mod Parts
-pub mod Places
+pub mod Signs
 pub mod Examples

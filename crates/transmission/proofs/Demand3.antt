@@ -5,7 +5,7 @@ use mathlib.Core.Path.{◌≡◌, refl, sym, ap, ap₂, subst, ◌∙◌}
 use mathlib.Core.Bool.{true, ◌&&◌}
 use mathlib.Core.List.{List, [], ◌∷◌, ◌++◌}
 use lib.ListN.{length}
-use Rattle.transmission.specs.Reading.{ReadsSingle, ReadsMulti}
+use Rattle.transmission.specs.Reading.{Rules}
 use Rattle.transmission.specs.State.{State, empty, started}
 use Rattle.transmission.specs.Step.{step}
 use Rattle.transmission.specs.Calls.{answers, reports_among, reports_to}
@@ -49,25 +49,25 @@ ready : {R : Type 0} (s : State) (m : Message R) (sent : List (Message R)) → R
 ready empty m sent h l = tt
 ready (started ci head last contents) m sent h l = h.1 l
 
-module _ {R : Type 0} (single : ReadsSingle R) (read : ReadsMulti R) where
-  transmitted : (k : ℕ) (sent : List (Message R)) → All (λ m. WellFormed single read m.groups m.report) sent → Spaced k sent → NeverLost k sent
-      → (s : State) → Ready s sent → heard single read s (arrivals sent) ≡ due_reports sent
+module _ {R E : Type 0} (rules : Rules R E) where
+  transmitted : (k : ℕ) (sent : List (Message R)) → All (λ m. WellFormed rules m.groups m.report) sent → Spaced k sent → NeverLost k sent
+      → (s : State) → Ready s sent → heard rules s (arrivals sent) ≡ due_reports sent
   unfolding arrivals due_reports answers reports_among
   transmitted k [] formed apart bound s r = refl
   transmitted k (m ∷ sent) formed apart bound s r =
       let bound' : NeverLost k sent = λ before after e. bound (m ∷ before) after (ap (λ (l : List (Message R)). m ∷ l) e) in
       let apart' : Spaced k sent = λ ci before between after a b ia ib e. apart ci (m ∷ before) between after a b ia ib (ap (λ (l : List (Message R)). m ∷ l) e) in
       let rest = transmitted k sent formed.1 apart' bound' in
-      one_message single read (arrivals sent) (due_reports sent) (rest empty tt) s formed.0 (foreign s m sent r) (λ l. rest s (ready s m sent r l))
+      one_message rules (arrivals sent) (due_reports sent) (rest empty tt) s formed.0 (foreign s m sent r) (λ l. rest s (ready s m sent r l))
       (λ ci i head last contents. rest (started ci head last contents)
       (safe k ci sent (λ between after b ib e. apart ci [] between after m b i ib (ap (λ (l : List (Message R)). m ∷ l) e)) (bound' [] sent refl)))
 
   -- where as many messages stand between two of one index as no loss holds
-  pub claim : (k : ℕ) → Claim single read k k (reports_to (step single read) empty)
+  pub claim : (k : ℕ) → Claim rules k k (reports_to (step rules) empty)
   claim k sent words formed apart bound e =
-      only_user_words single read words empty
-      ∙ ap (heard single read empty) e
+      only_user_words rules words empty
+      ∙ ap (heard rules empty) e
       ∙ transmitted k sent formed apart (never_lost k sent bound) empty tt
 
-  pub demand3 : Demand3 single read (reports_to (step single read) empty)
+  pub demand3 : Demand3 rules (reports_to (step rules) empty)
   demand3 = claim 5

@@ -12,7 +12,7 @@ use Rattle.transmission.specs.Calls.{reports_to}
 use Rattle.transmission.specs.Message.{Message, end, joined}
 use Rattle.transmission.proofs.FewLost.{few-lost}
 use Rattle.transmission.proofs.Spacing.{by_test}
-use Rattle.transmission.proofs.Samples.{computing, Plain, plain_single, plain_read, Formed, sent1, sent2, sent3, sent5, formed1, formed2, formed3, formed5}
+use Rattle.transmission.proofs.Samples.{computing, Plain, plain_rules, Formed, sent1, sent2, sent3, sent5, formed1, formed2, formed3, formed5}
 use Rattle.transmission.proofs.Demand3.{demand3}
 
 -- two groups of index 3, both lost
@@ -54,10 +54,10 @@ received =
     ∷ later401
     ∷ []
 
-pub example : reports_to (step plain_single plain_read) empty received ≡ (401 ∷ 0x3502000 ∷ []) ∷ (101 ∷ []) ∷ (401 ∷ 0x3502000 ∷ []) ∷ []
+pub example : reports_to (step plain_rules) empty received ≡ (401 ∷ 0x3502000 ∷ []) ∷ (101 ∷ []) ∷ (401 ∷ 0x3502000 ∷ []) ∷ []
 unfolding computing
 example =
-    demand3 plain_single plain_read sent received
+    demand3 plain_rules sent received
     (formed2 true true, (formed3 true true false, (formed1 false, (formed_unheard, (formed1 false, (formed1 false, (formed1 true, (formed3 false false true, (formed2 true true, tt)))))))))
     (by_test 5 sent refl) (few-lost 5 sent (lit< tt)) refl
 
@@ -80,9 +80,9 @@ four_twice =
 abbrev heard_twice : List ℕ
 heard_twice = first401 ∷ later401 ∷ 0x0150000007 ∷ 0x04899101F4 ∷ 0x0470000001 ∷ 0x0420000002 ∷ 0x0410000003 ∷ 0x0400000004 ∷ []
 
-pub two_losses : reports_to (step plain_single plain_read) empty heard_twice ≡ (401 ∷ 0x3502000 ∷ []) ∷ (401 ∷ 1 ∷ 2 ∷ 3 ∷ 4 ∷ []) ∷ []
+pub two_losses : reports_to (step plain_rules) empty heard_twice ≡ (401 ∷ 0x3502000 ∷ []) ∷ (401 ∷ 1 ∷ 2 ∷ 3 ∷ 4 ∷ []) ∷ []
 unfolding computing
 two_losses =
-    demand3 plain_single plain_read four_twice heard_twice
+    demand3 plain_rules four_twice heard_twice
     (formed2 true true, (formed1 false, (formed1 false, (formed1 false, (formed1 false, (formed3 false true false, (formed1 false, (formed1 false, (formed1 false, (formed_unheard, (formed5, tt)))))))))))
     (by_test 5 four_twice refl) (few-lost 5 four_twice (lit< tt)) refl

@@ -14,7 +14,7 @@ use Rattle.transmission.specs.Transmission.{arrivals, due_reports}
 use Rattle.transmission.specs.Demand3.{user_words, All, Claim}
 use Rattle.transmission.proofs.FewLost.{most_lost, few-lost}
 use Rattle.transmission.proofs.Spacing.{spaced, by_test}
-use Rattle.transmission.proofs.Samples.{computing, Plain, plain_single, plain_read, Formed, sent1, sent3, formed1, formed3}
+use Rattle.transmission.proofs.Samples.{computing, Plain, plain_rules, Formed, sent1, sent3, formed1, formed3}
 
 -- k messages lost whole, then one of which only the last group arrives
 abbrev only_tail : ℕ → List (Message Plain)
@@ -34,7 +34,7 @@ formed (suc k) = (formed1 false, formed k)
 
 -- a report is given and none is due
 joined_wrongly : (between limit k : ℕ) → spaced between (cut k) ≡ true → most_lost 0 (cut k) < limit → user_words received ≡ arrivals (cut k) → due_reports (cut k) ≡ []
-    → Claim plain_single plain_read between limit (reports_to (step plain_single plain_read) empty) → ⊥
+    → Claim plain_rules between limit (reports_to (step plain_rules) empty) → ⊥
 unfolding computing
 joined_wrongly between limit k apart few order none claim =
     let e : ◌≡◌ {A = List Plain} ((401 ∷ 7 ∷ 8 ∷ []) ∷ []) [] =
@@ -42,10 +42,10 @@ joined_wrongly between limit k apart few order none claim =
     let z : ◌≡◌ {A = ℕ} 0 1 = cc in
     omega arith
 
-pub five_lost : Claim plain_single plain_read 5 6 (reports_to (step plain_single plain_read) empty) → ⊥
+pub five_lost : Claim plain_rules 5 6 (reports_to (step plain_rules) empty) → ⊥
 unfolding computing
 five_lost = joined_wrongly 5 6 5 refl (lit< tt) refl refl
 
-pub four_between : Claim plain_single plain_read 4 5 (reports_to (step plain_single plain_read) empty) → ⊥
+pub four_between : Claim plain_rules 4 5 (reports_to (step plain_rules) empty) → ⊥
 unfolding computing
 four_between = joined_wrongly 4 5 4 refl (lit< tt) refl refl

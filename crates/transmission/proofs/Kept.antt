@@ -8,7 +8,7 @@ use lib.Dec.{leb, ltb, eqb}
 use lib.ListN.{length, length-append}
 use borrow.Author.Tests.{eqb-true, eqb-false, le-leb, leb-true}
 use Rattle.bits.specs.Fields.{fits}
-use Rattle.bits.specs.Outcome.{Outcome, gives, refused}
+use Rattle.std.specs.Prelude.{Result, Ok, Err}
 use Rattle.bits.proofs.Choice.{and_left, and_right}
 use Rattle.word.specs.declared.Head.{Head}
 use Rattle.word.specs.declared.Word.{Word}
@@ -17,7 +17,7 @@ use Rattle.word.specs.Format.{head_part}
 use Rattle.word.specs.Kind.{kind_of}
 use Rattle.word.specs.Compose.{head_values, is_index}
 use Rattle.word.proofs.Numbers.{head-fits}
-use Rattle.transmission.specs.Reading.{ReadsSingle, ReadsMulti}
+use Rattle.transmission.specs.Reading.{Rules}
 use Rattle.transmission.specs.State.{State, empty, started}
 use Rattle.transmission.specs.Step.{strayed, in_turn, completed, taken, later, step_by, step}
 use Rattle.transmission.specs.Calls.{after}
@@ -65,19 +65,19 @@ count-fit (d ∷ contents) last second gsi c turn room small more =
     let long = length-append contents (c ∷ []) in
     ap₂ ◌&&◌ (le-leb 1 gsi (omega arith)) (le-leb (suc (length (contents ++ c ∷ [])) + gsi) 4 (omega arith))
 
-completed_empties : {R : Type 0} (o : Outcome R ℕ) → (completed o).next ≡ empty
+completed_empties : {R E : Type 0} (o : Result R E) → (completed o).next ≡ empty
 unfolding completed
-completed_empties (gives r) = refl
-completed_empties (refused n) = refl
+completed_empties (Ok r) = refl
+completed_empties (Err e) = refl
 
-module _ {R : Type 0} (single : ReadsSingle R) (read : ReadsMulti R) where
-  later-kept : (s : State) (n ci second gsi c : ℕ) → kind_of n ≡ Later ci second gsi c → reachable s ≡ true → reachable (later read s ci second gsi c).next ≡ true
+module _ {R E : Type 0} (rules : Rules R E) where
+  later-kept : (s : State) (n ci second gsi c : ℕ) → kind_of n ≡ Later ci second gsi c → reachable s ≡ true → reachable (later rules s ci second gsi c).next ≡ true
   unfolding later taken reachable
   later-kept empty n ci second gsi c k r = refl
   later-kept (started index head last contents) n ci second gsi c k r = by_turn (eqb index ci && in_turn last contents second gsi) refl
     where
-      by_gsi : in_turn last contents second gsi ≡ true → (b : Bool) → eqb gsi 0 ≡ b → reachable (taken read ci head gsi (contents ++ c ∷ [])).next ≡ true
-      by_gsi turn true e = rw e (ap reachable (completed_empties (read head (contents ++ c ∷ []))))
+      by_gsi : in_turn last contents second gsi ≡ true → (b : Bool) → eqb gsi 0 ≡ b → reachable (taken rules ci head gsi (contents ++ c ∷ [])).next ≡ true
+      by_gsi turn true e = rw e (ap reachable (completed_empties (rules.multi head (contents ++ c ∷ []))))
       by_gsi turn false e =
           let old = fit r in
           let range = later_range n k in
@@ -88,11 +88,11 @@ module _ {R : Type 0} (single : ReadsSingle R) (read : ReadsMulti R) where
             count = count-fit contents last second gsi c turn old.count range.0 (eqb-false gsi 0 e);
           }))
 
-      by_turn : (b : Bool) → eqb index ci && in_turn last contents second gsi ≡ b → reachable (cond b (taken read ci head gsi (contents ++ c ∷ [])) strayed).next ≡ true
+      by_turn : (b : Bool) → eqb index ci && in_turn last contents second gsi ≡ b → reachable (cond b (taken rules ci head gsi (contents ++ c ∷ [])) (strayed rules)).next ≡ true
       by_turn false e = refl
       by_turn true e = by_gsi (and_right (eqb index ci) _ e) (eqb gsi 0) refl
 
-  kept_by : (s : State) (n : ℕ) (w : Word) → kind_of n ≡ w → reachable s ≡ true → reachable (step_by single read s w).next ≡ true
+  kept_by : (s : State) (n : ℕ) (w : Word) → kind_of n ≡ w → reachable s ≡ true → reachable (step_by rules s w).next ≡ true
   unfolding step_by reachable contents_fit count_fits
   kept_by s n (Single duration diversion head) k r = refl
   kept_by s n (First ci head) k r = unfit {gsi = 0} {contents = []} (record { index = first_index n k; ranges = head-fits 0 0 ci 1 head (first_fits n k); each = refl; count = refl })
@@ -102,11 +102,11 @@ module _ {R : Type 0} (single : ReadsSingle R) (read : ReadsMulti R) where
   kept_by s n (Index7 m) k r = r
   kept_by s n (Beyond m) k r = r
 
-  pub reachable_kept : (s : State) (n : ℕ) → reachable s ≡ true → reachable (step single read s n).next ≡ true
+  pub reachable_kept : (s : State) (n : ℕ) → reachable s ≡ true → reachable (step rules s n).next ≡ true
   unfolding step
   reachable_kept s n r = kept_by s n (kind_of n) refl r
 
-  pub after_kept : (words : List ℕ) (s : State) → reachable s ≡ true → reachable (after (step single read) s words) ≡ true
+  pub after_kept : (words : List ℕ) (s : State) → reachable s ≡ true → reachable (after (step rules) s words) ≡ true
   unfolding after
   after_kept [] s r = r
-  after_kept (n ∷ words) s r = after_kept words (step single read s n).next (reachable_kept s n r)
+  after_kept (n ∷ words) s r = after_kept words (step rules s n).next (reachable_kept s n r)

@@ -9,13 +9,14 @@ use mathlib.Core.List.{List, [], ◌∷◌, ◌++◌, append-nil, append_assoc}
 use lib.Dec.{leb, ltb}
 use lib.ListN.{length}
 use borrow.Author.Tests.{eqb-true, ne_eqb, leb-true}
+use Rattle.std.specs.Prelude.{Result}
 use Rattle.bits.proofs.Choice.{and_left, and_right}
 use Rattle.word.specs.declared.Head.{Head}
 use Rattle.word.specs.declared.Word.{Word}
 use Rattle.word.specs.declared.Word.TheVariants.{First, Later}
 use Rattle.word.specs.Kind.{kind_of}
 use Rattle.word.specs.Compose.{is_index}
-use Rattle.transmission.specs.Reading.{ReadsSingle, ReadsMulti}
+use Rattle.transmission.specs.Reading.{Rules}
 use Rattle.transmission.specs.State.{State, empty, started}
 use Rattle.transmission.specs.Step.{Answer, Step, step_by, step}
 use Rattle.transmission.specs.Calls.{answers, after, reports_among, reports_to}
@@ -27,14 +28,14 @@ use Rattle.transmission.proofs.Steps.{in_turn_lem, marked_in_turn, taken_open, s
 use Rattle.transmission.proofs.Kept.{Fit, fit, reachable_kept, after_kept}
 use Rattle.transmission.proofs.Demand3.{demand3}
 
-module _ {R : Type 0} (single : ReadsSingle R) (read : ReadsMulti R) where
+module _ {R E : Type 0} (rules : Rules R E) where
   -- some words lead from s to t
   abbrev Leads : State → State → Type 0
-  Leads s t = (words : List ℕ) × (after (step single read) s words ≡ t)
+  Leads s t = (words : List ℕ) × (after (step rules) s words ≡ t)
 
-  lead : (s t u : State) (w : Word) (n : ℕ) → kind_of n ≡ w → (step_by single read s w).next ≡ t → Leads t u → Leads s u
+  lead : (s t u : State) (w : Word) (n : ℕ) → kind_of n ≡ w → (step_by rules s w).next ≡ t → Leads t u → Leads s u
   unfolding after
-  lead s t u w n k e l = (n ∷ l.0, ap (λ (x : State). after (step single read) x l.0) (ap (λ (x : Step R). x.next) (step-kind single read s n w k) ∙ e) ∙ l.1)
+  lead s t u w n k e l = (n ∷ l.0, ap (λ (x : State). after (step rules) x l.0) (ap (λ (x : Step R E). x.next) (step-kind rules s n w k) ∙ e) ∙ l.1)
 
   -- the groups after the second
   lead-rest : (ci : ℕ) (head : Head) (last gsi d : ℕ) (contents rest : List ℕ) → is_index ci ≡ true → contents_fit rest ≡ true → 1 ≤ gsi → last ≡ gsi + length rest → last < 4
@@ -45,10 +46,10 @@ module _ {R : Type 0} (single : ReadsSingle R) (read : ReadsMulti R) where
       let here = gsi + length rest in
       let word = later-word ci 0 here c i (omega arith) (omega arith) (and_left (ltb c (2 ^ 28)) _ f) in
       let others = lead-rest ci head here gsi d (contents ++ c ∷ []) rest i (and_right (ltb c (2 ^ 28)) _ f) more refl (omega arith) in
-      let next = in_turn_lem read ci head here d contents c ∙ taken_open read ci head here (d ∷ (contents ++ c ∷ [])) (ne_eqb here 0 (λ z. omega arith)) in
+      let next = in_turn_lem rules ci head here d contents c ∙ taken_open rules ci head here (d ∷ (contents ++ c ∷ [])) (ne_eqb here 0 (λ z. omega arith)) in
       let before : last ≡ suc here = omega arith in
       subst₂ (λ (x : ℕ) (l : List ℕ). Leads (started ci head x (d ∷ contents)) (started ci head gsi (d ∷ l))) (sym before) (append_assoc contents (c ∷ []) rest)
-      (lead _ _ _ (Later ci 0 here c) word.0 word.1 (ap (λ (x : Step R). x.next) next) others)
+      (lead _ _ _ (Later ci 0 here c) word.0 word.1 (ap (λ (x : Step R E). x.next) next) others)
 
   -- the second group
   lead_contents : (ci : ℕ) (head : Head) (gsi : ℕ) (contents : List ℕ) → Fit ci head gsi contents → Leads (started ci head 0 []) (started ci head gsi contents)
@@ -59,8 +60,8 @@ module _ {R : Type 0} (single : ReadsSingle R) (read : ReadsMulti R) where
       let few = leb-true (suc (length rest) + gsi) 4 (and_right (leb 1 gsi) _ f.count) in
       let here = gsi + length rest in
       let word = later-word ci 1 here c f.index (omega arith) (omega arith) (and_left (ltb c (2 ^ 28)) _ f.each) in
-      let next = marked_in_turn read ci head here c ∙ taken_open read ci head here (c ∷ []) (ne_eqb here 0 (λ z. omega arith)) in
-      lead _ _ _ (Later ci 1 here c) word.0 word.1 (ap (λ (x : Step R). x.next) next)
+      let next = marked_in_turn rules ci head here c ∙ taken_open rules ci head here (c ∷ []) (ne_eqb here 0 (λ z. omega arith)) in
+      lead _ _ _ (Later ci 1 here c) word.0 word.1 (ap (λ (x : Step R E). x.next) next)
       (lead-rest ci head here gsi c [] rest f.index (and_right (ltb c (2 ^ 28)) _ f.each) more refl (omega arith))
 
   lead_to : (s : State) → reachable s ≡ true → Leads empty s
@@ -72,29 +73,29 @@ module _ {R : Type 0} (single : ReadsSingle R) (read : ReadsMulti R) where
       lead _ _ _ (First ci head) word.0 word.1 refl (lead_contents ci head gsi contents f)
 
   -- a call from such a state is the step, so that calls from the empty state are steps
-  call_step : (s : State) (n : ℕ) → reachable s ≡ true → call single read s n ≡ step single read s n
+  call_step : (s : State) (n : ℕ) → reachable s ≡ true → call rules s n ≡ step rules s n
   unfolding call
   call_step s n r = rw r
 
-  pub same-answers : (words : List ℕ) (s : State) → reachable s ≡ true → answers (call single read) s words ≡ answers (step single read) s words
+  pub same-answers : (words : List ℕ) (s : State) → reachable s ≡ true → answers (call rules) s words ≡ answers (step rules) s words
   unfolding answers
   same-answers [] s r = refl
   same-answers (n ∷ words) s r =
-      rw (call_step s n r) (ap (λ (l : List (Answer R)). (step single read s n).answer ∷ l) (same-answers words (step single read s n).next (reachable_kept single read s n r)))
+      rw (call_step s n r) (ap (λ (l : List (Result (Answer R) E)). (step rules s n).answer ∷ l) (same-answers words (step rules s n).next (reachable_kept rules s n r)))
 
-  pub same_after : (words : List ℕ) (s : State) → reachable s ≡ true → after (call single read) s words ≡ after (step single read) s words
+  pub same_after : (words : List ℕ) (s : State) → reachable s ≡ true → after (call rules) s words ≡ after (step rules) s words
   unfolding after
   same_after [] s r = refl
-  same_after (n ∷ words) s r = rw (call_step s n r) (same_after words (step single read s n).next (reachable_kept single read s n r))
+  same_after (n ∷ words) s r = rw (call_step s n r) (same_after words (step rules s n).next (reachable_kept rules s n r))
 
   -- exactly these states are reached
-  pub reached : (s : State) → reachable s ≡ true ↔ Reached (call single read) s
+  pub reached : (s : State) → reachable s ≡ true ↔ Reached (call rules) s
   unfolding reachable
   reached s = (
     λ r. let words = lead_to s r in (words.0, same_after words.0 empty refl ∙ words.1),
-    λ w. subst (λ (t : State). reachable t ≡ true) (sym (same_after w.0 empty refl) ∙ w.1) (after_kept single read w.0 empty refl),
+    λ w. subst (λ (t : State). reachable t ≡ true) (sym (same_after w.0 empty refl) ∙ w.1) (after_kept rules w.0 empty refl),
   )
 
-  pub demand3_of-calls : Demand3 single read (reports_to (call single read) empty)
+  pub demand3_of-calls : Demand3 rules (reports_to (call rules) empty)
   unfolding reachable
-  demand3_of-calls sent words formed apart bound e = ap reports_among (same-answers words empty refl) ∙ demand3 single read sent words formed apart bound e
+  demand3_of-calls sent words formed apart bound e = ap reports_among (same-answers words empty refl) ∙ demand3 rules sent words formed apart bound e

@@ -5,14 +5,15 @@ use mathlib.Core.Bool.{Bool, true}
 use mathlib.Core.List.{List, [], ◌∷◌, map}
 use Rattle.bits.specs.Bits.{bit, num, bits, val}
 use Rattle.bits.specs.Fields.{unpack}
-use Rattle.bits.specs.Outcome.{gives}
+use Rattle.std.specs.Prelude.{Ok}
+use Rattle.refusal.specs.declared.Refusal.{Refusal}
 use Rattle.word.specs.declared.Word.TheVariants.{Single, First, Later}
 use Rattle.word.specs.Format.{head_fields, later_fields}
 use Rattle.word.specs.Kind.{kind_of, kind_by, multi_by}
 use Rattle.word.specs.Compose.{is_index}
 use Rattle.word.specs.Samples.{single101, head101, first401, later401, head401}
 use Rattle.word.specs.User.{is_user}
-use Rattle.transmission.specs.Reading.{ReadsSingle, ReadsMulti}
+use Rattle.transmission.specs.Reading.{Rules}
 use Rattle.transmission.specs.Step.{in_turn, completed, taken, later, step_by, step}
 use Rattle.transmission.specs.Calls.{answers, report_then, reports_among}
 use Rattle.transmission.specs.Message.{Group, Message, end, next, WellFormed, alone, joined, arrived_of, whole, lost}
@@ -29,14 +30,15 @@ computing = tt
 abbrev pub Plain : Type 0
 Plain = List ℕ
 
-abbrev pub plain_single : ReadsSingle Plain
-plain_single duration diversion head = head.event ∷ []
-
-abbrev pub plain_read : ReadsMulti Plain
-plain_read head contents = gives (head.event ∷ contents)
+abbrev pub plain_rules : Rules Plain Refusal
+plain_rules = record {
+  single = λ duration diversion head. head.event ∷ [];
+  multi = λ head contents. Ok (head.event ∷ contents);
+  plain = λ refusal. refusal;
+}
 
 abbrev pub Formed : Message Plain → Type 0
-Formed m = WellFormed plain_single plain_read m.groups m.report
+Formed m = WellFormed plain_rules m.groups m.report
 
 -- the kinds of the words
 pub kinds : (kind_of single101 ≡ Single 3 0 head101)

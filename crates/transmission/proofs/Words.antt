@@ -5,13 +5,13 @@ use mathlib.Core.Bool.{Bool, true, false, ◌&&◌}
 use native.Mathlib.Omega.{arith}
 use lib.Dec.{leb, ltb}
 use borrow.Author.Tests.{leb-false, ltb-true, lt-ltb}
+use Rattle.std.specs.Prelude.{Ok}
 use Rattle.bits.specs.Bits.{val}
 use Rattle.bits.specs.Fields.{fits, pack}
 use Rattle.bits.proofs.Choice.{and_left, and_right, chosen}
 use Rattle.word.specs.declared.Head.{Head}
 use Rattle.word.specs.declared.Word.{Word}
 use Rattle.word.specs.declared.Word.TheVariants.{First, Later, Beyond}
-use Rattle.word.specs.declared.Composed.TheVariants.{Number}
 use Rattle.word.specs.Format.{limit, head_part, head_format, later_format}
 use Rattle.word.specs.Kind.{kind_of}
 use Rattle.word.specs.Compose.{composed, number_if, head_values, first_values, later_values, is_index}
@@ -19,16 +19,16 @@ use Rattle.word.proofs.Inverse.{parse-compose, compose-parse}
 use Rattle.word.proofs.Index.{index_fits}
 
 -- a number that is composed passed its test
-tested : (t : Bool) (m n : ℕ) → number_if t m ≡ Number n → t ≡ true
+tested : (t : Bool) (m n : ℕ) → number_if t m ≡ Ok n → t ≡ true
 tested true m n e = refl
 tested false m n e = cc
 
 -- a word of kind w composes again
-recomposed : (n : ℕ) (w : Word) → kind_of n ≡ w → (w ≡ Beyond n → ⊥) → composed w ≡ Number n
+recomposed : (n : ℕ) (w : Word) → kind_of n ≡ w → (w ≡ Beyond n → ⊥) → composed w ≡ Ok n
 unfolding kind_of
 recomposed n w e other = by_size (leb limit n) refl
   where
-    by_size : (b : Bool) → leb limit n ≡ b → composed w ≡ Number n
+    by_size : (b : Bool) → leb limit n ≡ b → composed w ≡ Ok n
     by_size false l = ap composed (sym e) ∙ parse-compose n (leb-false limit n l)
     by_size true l = absurd (other (sym e ∙ rw l))
 

@@ -2,7 +2,7 @@
 -- docs/DEMAND3.md explains it.
 use Rattle.std.specs.Prelude.{ℕ, ◌≡◌, cond, List, [], ◌∷◌}
 use Rattle.word.specs.User.{is_user}
-use Rattle.transmission.specs.Reading.{ReadsSingle, ReadsMulti}
+use Rattle.transmission.specs.Reading.{Rules}
 use Rattle.transmission.specs.Message.{Message, WellFormed}
 use Rattle.transmission.specs.Transmission.{Spaced, NoLossHolds, arrivals, due_reports}
 
@@ -15,14 +15,14 @@ abbrev pub All : {A : Type 0} → (A → Type 0) → List A → Type 0
 All P [] = Unit {0}
 All P (a ∷ l) = P a × All P l
 
-module _ {R : Type 0} (single : ReadsSingle R) (read : ReadsMulti R) where
+module _ {R E : Type 0} (rules : Rules R E) where
   -- well-formed messages are sent, with at least `between` others between two multi-group messages of one continuity index; no unbroken loss
   -- of user groups holds `limit` messages; the user groups that are not lost are heard once and in order, with other words anywhere. Then the
   -- reports given on the words are those of the messages that arrived whole, in the order sent
   abbrev pub Claim : ℕ → ℕ → (List ℕ → List R) → Type 0
   Claim between limit reports_on =
       (sent : List (Message R)) (words : List ℕ)
-      → All (λ m. WellFormed single read m.groups m.report) sent
+      → All (λ m. WellFormed rules m.groups m.report) sent
       → Spaced between sent
       → NoLossHolds limit sent
       → user_words words ≡ arrivals sent

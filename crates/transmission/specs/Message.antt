@@ -1,10 +1,10 @@
 -- A message as sent: its groups, of which some may be lost on the way (document 01, "The assembler"; ISO 14819-1, clause 9.4).
 use Rattle.std.specs.Prelude.{ℕ, suc, ◌≡◌, Bool, true, cond, ◌&&◌, not, List, [], ◌∷◌}
-use Rattle.bits.specs.Outcome.{gives}
+use Rattle.std.specs.Prelude.{Ok}
 use Rattle.word.specs.declared.Head.{Head}
 use Rattle.word.specs.declared.Word.TheVariants.{Single, First, Later}
 use Rattle.word.specs.Kind.{kind_of}
-use Rattle.transmission.specs.Reading.{ReadsSingle, ReadsMulti}
+use Rattle.transmission.specs.Reading.{Rules}
 
 -- a group: its word, and whether it arrived
 pub record Group : Type 0 where
@@ -41,13 +41,13 @@ pub data Falling (ci : ℕ) : ℕ → List ℕ → List Group → Type 0 where
 -- the groups of a well-formed message, and the report that the rules read from them: a single word; or a first group, a later
 -- one with the mark, and the others, whose content is not refused. GSI has two bits, so that the later groups are one to four
 -- (`at_most_five` in proofs/Formed.antt)
-pub data WellFormed {R : Type 0} (single : ReadsSingle R) (read : ReadsMulti R) : List Group → R → Type 0 where
+pub data WellFormed {R E : Type 0} (rules : Rules R E) : List Group → R → Type 0 where
   alone : {g : Group} {duration diversion : ℕ} {head : Head}
       → kind_of g.word ≡ Single duration diversion head
-      → WellFormed single read (g ∷ []) (single duration diversion head)
+      → WellFormed rules (g ∷ []) (rules.single duration diversion head)
   joined : {f g : Group} {ci gsi c : ℕ} {head : Head} {cs : List ℕ} {gs : List Group} {r : R}
-      → kind_of f.word ≡ First ci head → kind_of g.word ≡ Later ci 1 gsi c → Falling ci gsi cs gs → read head (c ∷ cs) ≡ gives r
-      → WellFormed single read (f ∷ g ∷ gs) r
+      → kind_of f.word ≡ First ci head → kind_of g.word ≡ Later ci 1 gsi c → Falling ci gsi cs gs → rules.multi head (c ∷ cs) ≡ Ok r
+      → WellFormed rules (f ∷ g ∷ gs) r
 
 -- a multi-group message of continuity index ci, by its first group
 pub data OfIndex (ci : ℕ) : List Group → Type 0 where

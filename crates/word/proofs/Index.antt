@@ -1,7 +1,7 @@
 -- A continuity index of 1 to 6 fits its three bits.
 use Prim.Native.Nat.{ℕ}
-use mathlib.Core.Path.{◌≡◌, refl, sym, ap, ◌∙◌}
-use mathlib.Core.Bool.{Bool, true, false, ◌&&◌, and_assoc, and-true}
+use mathlib.Core.Path.{◌≡◌, refl, ap}
+use mathlib.Core.Bool.{Bool, true, false, ◌&&◌}
 use native.Mathlib.Omega.{arith}
 use lib.Dec.{ltb, leb}
 use borrow.Author.Tests.{leb-true, lt-ltb}
@@ -21,11 +21,3 @@ index_lt ci h =
 
 pub index_fits : (ci : ℕ) (f : Bool) → is_index ci && (ltb ci 8 && f) ≡ is_index ci && f
 index_fits ci f = implied (is_index ci) (ltb ci 8) f (index_lt ci)
-
--- the tests of a later group, as the code joins them
-pub later_tests : (ci : ℕ) (s g d : Bool) → is_index ci && s && g && d ≡ is_index ci && (ltb ci 8 && (s && (g && (d && true))))
-later_tests ci s g d =
-    and_assoc (is_index ci && s) g d
-    ∙ and_assoc (is_index ci) s (g && d)
-    ∙ ap (λ (x : Bool). is_index ci && (s && (g && x))) (sym (and-true d))
-    ∙ sym (index_fits ci (s && (g && (d && true))))

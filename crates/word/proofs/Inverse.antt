@@ -13,16 +13,17 @@ use Rattle.bits.specs.Fields.{size, pack, unpack, fits}
 use Rattle.bits.proofs.Value.{length-bits, bits-val, val-bits_lt, val_lt}
 use Rattle.bits.proofs.Choice.{and_left, and_right}
 use Rattle.bits.proofs.Formats.{parts, unpack-bits, pack-unpack, unpack-pack, fits-unpack, length-pack}
+use Rattle.std.specs.Prelude.{Ok, Err}
+use Rattle.refusal.specs.declared.Refusal.TheVariants.{Unfit}
 use Rattle.word.specs.declared.Word.{Word}
 use Rattle.word.specs.declared.Word.TheVariants.{Single, First, Later, Tuning, Administration, Index7, Beyond}
-use Rattle.word.specs.declared.Composed.TheVariants.{Number, Refused}
 use Rattle.word.specs.Format.{limit, head_format, later_format, head_fields, later_fields, flag_t, flag_f, low_x, top_y, head_of}
 use Rattle.word.specs.Kind.{kind_of, kind_by, multi_by}
 use Rattle.word.specs.Compose.{composed, number_if, single_values, first_values, later_values, is_index}
 use Rattle.word.proofs.Fields.{head_fields_parts, later_fields_parts}
 
 -- the fields of a word in a format of 37 bits are in range, and pack to the word
-repacked : (ws : List ℕ) → 37 ≡ size ws → (n : ℕ) → n < limit → (t : Bool) (vs : List ℕ) → t ≡ true → vs ≡ unpack ws (bits 37 n) → number_if (t && fits ws vs) (val (pack ws vs)) ≡ Number n
+repacked : (ws : List ℕ) → 37 ≡ size ws → (n : ℕ) → n < limit → (t : Bool) (vs : List ℕ) → t ≡ true → vs ≡ unpack ws (bits 37 n) → number_if (t && fits ws vs) (val (pack ws vs)) ≡ Ok n
 repacked ws e n small t vs h f =
     let Size-ok = length-bits 37 n ∙ e in
     ap₂ (λ (b : Bool) (us : List ℕ). number_if (b && fits ws us) (val (pack ws us))) h f
@@ -56,7 +57,7 @@ module _ (n : ℕ) (small : n < limit) where
   l = parts later_format n
 
   -- what is told by a word's first bits, case by case
-  taken_apart : (t f z s y : Bool) → eqb (flag_t h) 1 ≡ t → eqb (flag_f h) 1 ≡ f → eqb (low_x h) 0 ≡ z → eqb (low_x h) 7 ≡ s → eqb (top_y h) 1 ≡ y → composed (kind_by n h l) ≡ Number n
+  taken_apart : (t f z s y : Bool) → eqb (flag_t h) 1 ≡ t → eqb (flag_f h) 1 ≡ f → eqb (low_x h) 0 ≡ z → eqb (low_x h) 7 ≡ s → eqb (top_y h) 1 ≡ y → composed (kind_by n h l) ≡ Ok n
   unfolding kind_by multi_by composed h l
   taken_apart true f z s y et ef ez es ey =
       let t = eqb-true (flag_t h) 1 et in
@@ -99,7 +100,7 @@ module _ (n : ℕ) (small : n < limit) where
       (first-four t0 f0 y0 ∙ sym (unpack-bits later_format n)))
 
   -- what is taken apart composes to the same word
-  pub parse-compose : composed (kind_of n) ≡ Number n
+  pub parse-compose : composed (kind_of n) ≡ Ok n
   unfolding kind_of h l
   parse-compose =
       ap (λ (b : Bool). composed (cond b (Beyond n) (kind_by n (head_fields n) (later_fields n)))) (lt-leb limit n small)
@@ -107,9 +108,9 @@ module _ (n : ℕ) (small : n < limit) where
       ∙ taken_apart _ _ _ _ _ refl refl refl refl refl
 
 -- what is composed is a word, and is taken apart to the same kind and fields
-from_number : (t : Bool) (m n : ℕ) → number_if t m ≡ Number n → (t ≡ true) × (m ≡ n)
+from_number : (t : Bool) (m n : ℕ) → number_if t m ≡ Ok n → (t ≡ true) × (m ≡ n)
 from_number true m n e = (refl, cc)
-from_number false m n e = let z : ◌≡◌ {A = ℕ} 0 1 = cc in absurd (omega arith)
+from_number false m n e = absurd (cc)
 
 -- the number of fields in range is a word that has these fields
 module _ (ws vs : List ℕ) (whole : size ws ≡ 37) (fit : fits ws vs ≡ true) (n : ℕ) (e : val (pack ws vs) ≡ n) where
@@ -142,7 +143,7 @@ index_not ci h =
     let b = leb-true ci 6 (and_right (leb 1 ci) (leb ci 6) h) in
     (ne_eqb ci 0 (λ e. omega arith), ne_eqb ci 7 (λ e. omega arith))
 
-pub compose-parse : (w : Word) (n : ℕ) → composed w ≡ Number n → kind_of n ≡ w
+pub compose-parse : (w : Word) (n : ℕ) → composed w ≡ Ok n → kind_of n ≡ w
 unfolding composed kind_by multi_by head_fields later_fields
 compose-parse (Single d v hd) n e =
     let vs = single_values d v hd in
@@ -189,10 +190,10 @@ compose-parse (Index7 m) n e =
     let f : n / 2 ^ 35 % 2 ≡ 0 = omega arith in
     let x : n / 2 ^ 32 % 8 ≡ 7 = omega arith in
     kind_by_lem n (omega arith) ∙ ap₂ (kind_by n) (head_fields_parts n) (later_fields_parts n) ∙ rw (t, f, x) (ap Index7 (sym same))
-compose-parse (Beyond m) n e = let z : ◌≡◌ {A = ℕ} 0 1 = cc in absurd (omega arith)
+compose-parse (Beyond m) n e = absurd (cc)
 
 -- what is composed is a word
-pub compose_small : (w : Word) (n : ℕ) → composed w ≡ Number n → n < limit
+pub compose_small : (w : Word) (n : ℕ) → composed w ≡ Ok n → n < limit
 unfolding kind_of composed
 compose_small w n e = by_size (leb limit n) refl
   where
@@ -201,13 +202,11 @@ compose_small w n e = by_size (leb limit n) refl
     by_size true l =
         let k = compose-parse w n e in
         let beyond : kind_of n ≡ Beyond n = ap (λ (t : Bool). cond t (Beyond n) (kind_by n (head_fields n) (later_fields n))) l in
-        let r : composed (Beyond n) ≡ Number n = ap composed (sym beyond ∙ k) ∙ e in
-        let z : ◌≡◌ {A = ℕ} 0 1 = cc in
-        absurd (omega arith)
+        let r : composed (Beyond n) ≡ Ok n = ap composed (sym beyond ∙ k) ∙ e in
+        absurd (cc)
 
 -- and what is refused no word has
-pub refused_none : (w : Word) → composed w ≡ Refused 9 → (n : ℕ) → n < limit → kind_of n ≡ w → ⊥
+pub refused_none : (w : Word) → composed w ≡ Err Unfit → (n : ℕ) → n < limit → kind_of n ≡ w → ⊥
 refused_none w r n small k =
     let e = parse-compose n small in
-    let z : ◌≡◌ {A = ℕ} 0 1 = cc in
-    omega arith
+    cc

@@ -6,7 +6,7 @@ mod parse;
 
 // What a single-group message and a first group share: Y14 to Y0 and Z.
 #[repr(C)]
-#[derive(Clone, Copy)]
+#[derive(Clone, Copy, Debug, Default, PartialEq, Eq)]
 pub struct Head {
     pub direction: u8,
     pub extent: u8,
@@ -15,7 +15,7 @@ pub struct Head {
 }
 
 // What a number stands for as a word.
-#[derive(Clone, Copy)]
+#[derive(Clone, Copy, Debug, PartialEq, Eq)]
 pub enum Word {
     // T = 0, F = 1: a whole message.
     Single {
@@ -43,13 +43,6 @@ pub enum Word {
     Index7(u64),
     // A number of 2^37 or more is no word.
     Beyond(u64),
-}
-
-// A composed word, or the refusal of fields that no word has.
-#[derive(Clone, Copy)]
-pub enum Composed {
-    Number(u64),
-    Refused(u8),
 }
 
 impl Word {

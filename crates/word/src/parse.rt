@@ -7,6 +7,7 @@ use crate::{Head, Word};
 
 impl Word {
     // What the number stands for as a word.
+    #[tactic(auto, using(crate::proofs::Fields::read_fields), unfolding(crate::specs::Kind::kind_of, crate::specs::Kind::kind_by))]
     pub fn parse(n: u64) -> Word
         ensures { result ≡ kind_of n }
     {
@@ -28,28 +29,25 @@ impl Word {
 }
 
 // What a word with T = 0 and F = 0 stands for.
+#[tactic(auto, using(crate::proofs::Fields::read_fields), unfolding(crate::specs::Kind::multi_by))]
 fn multi(n: u64) -> Word
     ensures { result ≡ multi_by n (head_fields n) (later_fields n) }
 {
-    let ci = (n / 0x1_0000_0000 % 8) as u8;
-    if ci == 0 {
-        return Word::Administration(n);
-    }
-    if ci == 7 {
-        return Word::Index7(n);
-    }
-    if n / 0x8000_0000 % 2 == 1 {
-        return Word::First { ci, head: head(n) };
-    }
-    Word::Later {
-        ci,
-        second: (n / 0x4000_0000 % 2) as u8,
-        gsi: (n / 0x1000_0000 % 4) as u8,
-        content: (n % 0x1000_0000) as u32,
+    match (n / 0x1_0000_0000 % 8) as u8 {
+        0 => Word::Administration(n),
+        7 => Word::Index7(n),
+        ci if n / 0x8000_0000 % 2 == 1 => Word::First { ci, head: head(n) },
+        ci => Word::Later {
+            ci,
+            second: (n / 0x4000_0000 % 2) as u8,
+            gsi: (n / 0x1000_0000 % 4) as u8,
+            content: (n % 0x1000_0000) as u32,
+        },
     }
 }
 
 // Direction, extent, event and location.
+#[tactic(auto, using(crate::proofs::Fields::read_fields))]
 fn head(n: u64) -> Head
     ensures { result ≡ head_of (head_fields n) }
 {

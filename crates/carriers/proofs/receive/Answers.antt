@@ -1,37 +1,24 @@
--- By the kind.
+-- A FIG's words are counted by `fig_count`.
 use native.Mathlib.Omega.{arith}
-use mathlib.Core.Path.{◌≡◌, sym, ◌∙◌}
-use mathlib.Core.Bool.{true, false}
-use lib.Dec.{eqb}
-use borrow.Author.Tests.{eq-eqb, ne_eqb}
-use Rattle.bits.proofs.Choice.{chosen, passed_over}
-use Rattle.carriers.specs.Carried.{carried_by, run_after, words_after, carried_in, count_of}
+use mathlib.Core.Path.{◌≡◌, sym, ap, ap₂, ◌∙◌}
+use lib.ListN.{length}
+use Rattle.std.specs.Prelude.{Result, Ok}
+use Rattle.refusal.specs.declared.Refusal.{Refusal}
+use Rattle.fig.specs.declared.Reading.{Reading}
+use Rattle.fig.specs.Read.{read_fig}
+use Rattle.carriers.specs.declared.Kind.{Kind}
+use Rattle.carriers.specs.declared.Kind.TheVariants.{Fig}
+use Rattle.carriers.specs.Carried.{kind_by, carried_in, carried_as, by_fig, fig_count}
+use Rattle.carriers.proofs.Carrying.{mapped_by, fig_carried}
 use Rattle.carriers.proofs.receive.Goals as goal
 
-pub returns-then-kind-eq-RDS : goal.returns-then-kind-eq-RDS
-unfolding carried_by run_after words_after
-returns-then-kind-eq-RDS c =
-    let call = c.from_rds in
-    let kind : eqb c.args.kind 1 ≡ true = eq-eqb _ 1 c.if-kind-eq-RDS.true in record { run_value = call.ensures.run_value ∙ sym (chosen _ _ _ kind); words_after = call.ensures.words_after ∙ sym (chosen _ _ _ kind); carried_bound = (call.ensures.carried_bound, omega arith); words_after_2 = call.ensures.words_after_2 ∙ sym (chosen _ _ _ kind) }
-
-pub returns-then-kind-eq-FIG : goal.returns-then-kind-eq-FIG
-unfolding carried_by run_after words_after
-returns-then-kind-eq-FIG c =
-    let call = c.from_fig in
-    let other : eqb c.args.kind 1 ≡ false = ne_eqb _ 1 c.if-kind-eq-RDS.false in
-    let kind : eqb c.args.kind 2 ≡ true = eq-eqb _ 2 c.if-kind-eq-FIG.true in record { run_value = sym (passed_over _ _ _ other); words_after = call.ensures.words_after ∙ sym (passed_over _ _ _ other ∙ chosen _ _ _ kind); carried_bound = (call.ensures.result_bound, omega arith); words_after_2 = call.ensures.words_after_2 ∙ sym (passed_over _ _ _ other ∙ chosen _ _ _ kind) }
-
-pub returns-then-kind-eq-DRM : goal.returns-then-kind-eq-DRM
-unfolding carried_by run_after words_after
-returns-then-kind-eq-DRM c =
-    let call = c.from_drm in
-    let other : eqb c.args.kind 1 ≡ false = ne_eqb _ 1 c.if-kind-eq-RDS.false in
-    let other2 : eqb c.args.kind 2 ≡ false = ne_eqb _ 2 c.if-kind-eq-FIG.false in
-    let kind : eqb c.args.kind 3 ≡ true = eq-eqb _ 3 c.if-kind-eq-DRM.true in record { run_value = sym (passed_over _ _ _ other); words_after = call.ensures.words_after ∙ sym (passed_over _ _ _ other ∙ passed_over _ _ _ other2 ∙ chosen _ _ _ kind); carried_bound = (call.ensures.result_bound, omega arith); words_after_2 = call.ensures.words_after_2 ∙ sym (passed_over _ _ _ other ∙ passed_over _ _ _ other2 ∙ chosen _ _ _ kind) }
-
-pub returns : goal.returns
-unfolding carried_by run_after words_after carried_in count_of
-returns c =
-    let other : eqb c.args.kind 1 ≡ false = ne_eqb _ 1 c.if-kind-eq-RDS.false in
-    let other2 : eqb c.args.kind 2 ≡ false = ne_eqb _ 2 c.if-kind-eq-FIG.false in
-    let other3 : eqb c.args.kind 3 ≡ false = ne_eqb _ 3 c.if-kind-eq-DRM.false in record { run_value = sym (passed_over _ _ _ other); words_after = sym (passed_over _ _ _ other ∙ passed_over _ _ _ other2 ∙ passed_over _ _ _ other3); carried_bound = (omega arith, omega arith); words_after_2 = sym (passed_over _ _ _ other ∙ passed_over _ _ _ other2 ∙ passed_over _ _ _ other3) }
+pub returns-in-Ok-Fig-clause-words_after : goal.returns-in-Ok-Fig-clause-words_after
+unfolding carried_as
+returns-in-Ok-Fig-clause-words_after c =
+    let body = c.args.body.now in
+    let room : length c.args.words.now ≡ 27 = omega arith in
+    let kind : kind_by c.args.kind ≡ Ok Fig = sym c.in-Ok-Fig.ensures ∙ ap (λ (k : Kind). Ok k) c.in-Ok-Fig.field-0-is in
+    ap₂ carried_in (mapped_by fig_count c.read.result c.map.result c.map.ensures.cases) c.read.ensures.out_after
+    ∙ fig_carried c.read.result body c.args.words.now
+    ∙ ap (λ (x : Result Reading Refusal). by_fig x body) (c.read.ensures.value ∙ ap (read_fig body) room)
+    ∙ sym (ap (λ (k : Result Kind Refusal). carried_as k c.args.run body) kind)

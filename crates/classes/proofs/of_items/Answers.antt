@@ -1,57 +1,28 @@
--- The classes of the items from i on.
-use Prim.Native.Nat.{ℕ, suc, ◌-◌}
-use native.Mathlib.Omega.{arith}
-use mathlib.Core.Path.{◌≡◌, sym, ap, ◌∙◌}
-use mathlib.Core.List.{List, [], ◌∷◌}
-use lib.ListN.{length, drop, get_or}
-use lib.Seq.{drop-length}
-use Rattle.content.specs.declared.item.Item.{Item}
-use Rattle.content.specs.Stored.{limit, no_item, listed}
-use Rattle.content.proofs.Places.{length-listed, listed_cons}
-use Rattle.record.specs.Classes.{set_of}
-use Rattle.classes.specs.Events.{additional_events}
-use Rattle.classes.specs.Classes.{event_classes}
-use Rattle.classes.proofs.EventClasses.{listed-within}
+-- From the last item to the first.
+use Prim.Native.Nat.{ℕ}
+use mathlib.Core.Path.{◌≡◌, ap, ◌∙◌}
+use lib.ListN.{length, take}
+use mathlib.Core.List.{List, reverse}
+use Rattle.std.specs.List.{fold}
+use Rattle.std.specs.Slice.Iter.{iter_rest}
+use Rattle.std.proofs.Common.{rules, tests}
+use Rattle.std.proofs.lemmas.Iterator.Adapters.{YieldsList-from_rev_slice}
+use Rattle.std.proofs.lemmas.Iterator.Consumers.{fold_from_yields_List}
+use Rattle.content.specs.Stored.{limit, listed}
+use Rattle.record.specs.declared.classes.Classes.{Classes}
+use Rattle.classes.proofs.EventClasses.{added, items_folded, items_set, listed-within}
 use Rattle.classes.proofs.of_items.Goals as goal
-use Rattle.classes.proofs.of_items.Invariants.{within, classes_from}
-
-pub new-classes-requires : goal.new-classes-requires
-new-classes-requires c = tt
-
-pub at_most_all-i-requires : goal.at_most_all-i-requires
-at_most_all-i-requires c = tt
-
-pub loop-i-init : goal.loop-i-init
-unfolding set_of event_classes additional_events
-loop-i-init c =
-    let a = c.args in
-    let k = a.catalogue.now in
-    let s = within a.items in
-    let n : length s.places ≡ limit = c.well_formed.0.1.1.0.1.0.1 in
-    let none : drop s.count (listed s) ≡ [] = ap (λ (i : ℕ). drop i (listed s)) (sym (length-listed s n (omega arith))) ∙ drop-length (listed s) in
-    (omega arith, c.new-classes.ensures ∙ sym (ap (classes_from k a.items) c.at_most_all-i.ensures ∙ ap (λ (its : List Item). set_of (event_classes k (additional_events its))) none))
-
-pub with_item-classes-requires : goal.with_item-classes-requires
-with_item-classes-requires c = tt
-
-pub loop-i-preserved : goal.loop-i-preserved
-loop-i-preserved c =
-    let l = c.loop-i in
-    let a = c.args in
-    let s = within a.items in
-    let j = l.i - 1 in
-    let n : length s.places ≡ limit = c.well_formed.0.1.1.0.1.0.1 in
-    let i : l.i ≡ suc j = omega arith in
-    let e : get_or s.places j no_item ∷ drop l.i (listed s) ≡ drop j (listed s) =
-    ap (λ (k : ℕ). get_or s.places j no_item ∷ drop k (listed s)) i ∙ listed_cons s n (omega arith) j (omega arith) in
-    (omega arith, c.with_item-classes.ensures (drop l.i (listed s)) l.invariant.1 ∙ ap (λ (its : List Item). set_of (event_classes a.catalogue.now (additional_events its))) e)
 
 pub returns : goal.returns
+unfolding listed
 returns c =
     let a = c.args in
-    let l = c.loop-i in
-    let n : length a.items.places ≡ limit = c.well_formed.0.1.1.0.1.0.1 in
-    let i : l.i ≡ 0 = omega arith in
-    l.invariant.1
-    ∙ ap (classes_from a.catalogue.now a.items) i
-    ∙ ap (λ (its : List Item). set_of (event_classes a.catalogue.now (additional_events its))) (listed-within a.items n)
+    let k = a.catalogue.now in
+    let places : length a.items.places ≡ limit = c.well_formed.0.1.1.0.1.0.1 in
+    let used = take c.min-used.result a.items.places in
+    let road = YieldsList-from_rev_slice used (ap iter_rest c.rev.ensures.source ∙ c.iter.ensures.rest) in
+    let folded : c.fold.result ≡ fold (added k) c.new.result (reverse used) = fold_from_yields_List _ (added k) c.new.result c.fold.result c.fold.ensures.ran road (λ b x r q h. search (rules, tests)) in
+    let none : c.new.result ≡ record { 0 = 0 } = ap (λ (n : ℕ). record { 0 = n }) c.new.ensures in
+    ap (λ (x : Classes). x.0) (folded ∙ ap (λ (x : Classes). fold (added k) x (reverse used)) none ∙ items_folded k used)
+    ∙ ap (λ (n : ℕ). items_set k (take n a.items.places)) c.min-used.ensures
+    ∙ ap (items_set k) (listed-within a.items places)

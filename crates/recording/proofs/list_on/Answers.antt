@@ -6,9 +6,11 @@ use mathlib.Core.Bool.{Bool, false, cond}
 use mathlib.Core.List.{[]}
 use Rattle.framing.specs.declared.Frame.{Frame}
 use Rattle.framing.specs.declared.Frame.TheVariants.{End, Part, Bad, Whole}
+use Rattle.std.specs.Prelude.{Ok, Err}
+use Rattle.report.specs.declared.Unreadable.TheVariants.{Refused}
+use Rattle.lines.proofs.Puts.{put_nothing}
 use Rattle.recording.specs.Listing.{whole}
 use lib.ListN.{length, drop, length-drop}
-use Rattle.report.specs.declared.Refusal.TheVariants.{Plain}
 use Rattle.lines.specs.Line.{refusal_line}
 use Rattle.framing.specs.Frame.{frame_of}
 use Rattle.session.specs.Session.{next, after_frame, frame_text}
@@ -40,29 +42,28 @@ slice_bounds-of-start c = omega (arith, c.loop-out.invariant.taken)
 pub of-f-requires : goal.of-f-requires
 of-f-requires c = tt
 
-pub is_ended-ended-requires : goal.is_ended-ended-requires
-is_ended-ended-requires c = tt
+pub put_refusal-requires : goal.put_refusal-requires
+put_refusal-requires c = omega (arith, c.loop-out.invariant.written, c.loop-out-test.true)
 
-pub is_refused-requires : goal.is_refused-requires
-is_refused-requires c = tt
-
-pub put_end-end-requires : goal.put_end-end-requires
-put_end-end-requires c = omega (arith, c.loop-out.invariant.written, c.loop-out-test.true)
-
-pub shape_of-out-in_default : goal.shape_of-out-in_default
-shape_of-out-in_default c = c.put_end-end.auto.out ∙ c.loop-out.invariant.same
-
-pub returns-in_default : goal.returns-in_default
-returns-in_default c =
+pub returns-in-Ok : goal.returns-in-Ok
+returns-in-Ok c =
     let a = c.args in
     let l = c.loop-out in
-    let call = c.put_end-end in
     let f = c.of-f in
     let at-hand = f.ensures ∙ ap frame_of (tail_part l.from a.s.now) in
+    going_end a.begun a.s.now a.last a.out.now l.session l.from l.at l.out l.invariant _ l.at l.out (put_nothing l.at l.out)
+    f.result (Ok c.in-Ok.ended) (sym at-hand) (not-whole f.result c.in_default.not-Whole) (sym c.end.ensures ∙ c.in-Ok.is) refl l.invariant.written
+
+pub returns-in-Err : goal.returns-in-Err
+returns-in-Err c =
+    let a = c.args in
+    let l = c.loop-out in
+    let f = c.of-f in
+    let call = c.put_refusal in
+    let at-hand = f.ensures ∙ ap frame_of (tail_part l.from a.s.now) in
     going_end a.begun a.s.now a.last a.out.now l.session l.from l.at l.out l.invariant _ call.result call.new.out call.ensures.put
-    f.result c.is_ended-ended.result (sym at-hand) (not-whole f.result c.in_default.not-Whole)
-    (ap (λ (b : Bool). cond b (refusal_line (next l.session.frames) (Plain 1)) []) c.is_refused.ensures)
-    c.is_ended-ended.ensures
+    f.result (Err c.in-Err.refusal) (sym at-hand) (not-whole f.result c.in_default.not-Whole) (sym c.end.ensures ∙ c.in-Err.is)
+    (ap (λ (n : ℕ). refusal_line n (Refused c.in-Err.refusal)) c.next.ensures)
     (omega (arith, call.ensures.upper_bound, call.auto.out, c.loop-out-test.true))
 
 pub overflow_add-start : goal.overflow_add-start

@@ -20,28 +20,28 @@ at_most_one n b e = omega (arith, num_le b)
 
 pub loop-i-init : goal.loop-i-init
 unfolding count_if chunks
-loop-i-init c = let a = c.args in (omega arith, swept_none (renewed a.catalogue.now) a.t.now, refl)
+loop-i-init c = let a = c.args in (swept_none (renewed a.catalogue.now) a.t.now, refl)
 
 pub slice_bounds-renew_record-end : goal.slice_bounds-renew_record-end
 slice_bounds-renew_record-end c =
     let a = c.args in
     let l = c.loop-i in
     let k = a.catalogue.now in
-    omega (arith, ap length l.invariant.1, length_swept (renewed k) (renewed-keeps k) l.i a.t.now l.invariant.0)
+    omega (arith, ap length l.invariant.0, length_swept (renewed k) (renewed-keeps k) l.i a.t.now (omega arith))
 
 pub renew_record-used-requires : goal.renew_record-used-requires
 renew_record-used-requires c =
     let a = c.args in
     let l = c.loop-i in
     let k = a.catalogue.now in
-    part_sized (renewed k) (renewed-keeps k) l.i a.t.now l.t c.loop-i-test.true l.invariant.1
+    part_sized (renewed k) (renewed-keeps k) l.i a.t.now l.t (omega arith) l.invariant.0
 
 pub overflow_add-used : goal.overflow_add-used
 overflow_add-used c =
     let a = c.args in
     let l = c.loop-i in
     let f = c.renew_record-used in
-    omega (arith, l.invariant.2, at_most_one _ _ f.ensures.value, count_le used (chunks l.i a.t.now), length-chunks l.i a.t.now)
+    omega (arith, l.invariant.1, at_most_one _ _ f.ensures.value, count_le used (chunks l.i a.t.now), length-chunks l.i a.t.now)
 
 pub loop-i-preserved : goal.loop-i-preserved
 loop-i-preserved c =
@@ -50,9 +50,8 @@ loop-i-preserved c =
     let k = a.catalogue.now in
     let f = c.renew_record-used in
     let h : l.i < length a.t.now / record_size = omega arith in (
-      omega arith,
-      swept_next (renewed k) (renewed-keeps k) l.i a.t.now l.t h l.invariant.1 f.new.r f.ensures.r_after,
-      ap (λ (n : ℕ). n + f.result) l.invariant.2 ∙ count_next (renewed k) (renewed-keeps k) l.i a.t.now l.t h l.invariant.1 used f.result f.ensures.value,
+      swept_next (renewed k) (renewed-keeps k) l.i a.t.now l.t h l.invariant.0 f.new.r f.ensures.r_after,
+      ap (λ (n : ℕ). n + f.result) l.invariant.1 ∙ count_next (renewed k) (renewed-keeps k) l.i a.t.now l.t h l.invariant.0 used f.result f.ensures.value,
     )
 
 pub shape_of-t : goal.shape_of-t
@@ -60,7 +59,7 @@ shape_of-t c =
     let a = c.args in
     let l = c.loop-i in
     let k = a.catalogue.now in
-    ap length l.invariant.1 ∙ length_swept (renewed k) (renewed-keeps k) l.i a.t.now l.invariant.0
+    ap length l.invariant.0 ∙ length_swept (renewed k) (renewed-keeps k) l.i a.t.now (omega arith)
 
 pub returns : goal.returns
 unfolding count_where
@@ -69,4 +68,4 @@ returns c =
     let k = c.args.catalogue.now in
     let l = c.loop-i in
     let e : l.i ≡ length t₀ / record_size = omega arith in
-    record { value = l.invariant.2 ∙ counted-all used l.i t₀ e; t_after = l.invariant.1 ∙ swept_all (renewed k) (renewed-keeps k) t₀ c.requires l.i e }
+    record { value = l.invariant.1 ∙ counted-all used l.i t₀ e; t_after = l.invariant.0 ∙ swept_all (renewed k) (renewed-keeps k) t₀ c.requires l.i e }

@@ -1,5 +1,4 @@
-use Prim.Native.Nat.{◌-◌, ◌≤◌}
-use mathlib.Core.Path.{◌≡◌}
+use Rattle.std.proofs.Common.{◌≡◌}
 use Rattle.lent.specs.Records.{chunks}
 use Rattle.table.specs.Records.{count_if}
 use Rattle.table.specs.Effect.{used}
@@ -8,7 +7,4 @@ use Rattle.renewal.specs.Renewal.{renewed}
 use Rattle.renewal.proofs.renew_records.Given as goal
 
 abbrev pub invariant-loop-i : goal.invariant-loop-i
-invariant-loop-i l = (l.i ≤ l.n) × (l.t ≡ swept (renewed l.catalogue) l.i l.initial.t) × (l.used ≡ count_if used (chunks l.i l.initial.t))
-
-abbrev pub decreases-loop-i : goal.decreases-loop-i
-decreases-loop-i l = l.n - l.i
+invariant-loop-i l = (l.t ≡ swept (renewed l.catalogue) l.i l.initial.t) × (l.used ≡ count_if used (chunks l.i l.initial.t))

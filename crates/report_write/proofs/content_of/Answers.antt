@@ -1,19 +1,18 @@
 -- The real location is put before the packed items.
-use Prim.Native.Nat.{ℕ, ◌+◌, ◌-◌}
+use Prim.Native.Nat.{ℕ}
 use native.Mathlib.Omega.{arith}
-use mathlib.Core.Path.{ap, ap₂, ◌∙◌}
-use mathlib.Core.List.{◌++◌}
-use lib.ListN.{take}
-use Rattle.bits.specs.Bits.{bits}
+use mathlib.Core.Path.{◌≡◌, sym, ap₂, ◌∙◌}
+use Rattle.std.specs.Prelude.{Ok}
 use Rattle.content.specs.declared.content.Content.{Content}
 use Rattle.content.specs.declared.rest.Rest.{Rest}
-use Rattle.content.specs.declared.pack.Packed.{Packed}
-use Rattle.content.specs.Halves.{bits_of, content_of as kept}
-use Rattle.content.specs.Answers.{bits_packed}
+use Rattle.content.specs.Answers.{packed_of}
 use Rattle.report.proofs.Places.{place_small}
 use Rattle.report.proofs.Multi.{content_short}
-use Rattle.report_write.proofs.Kept.{all-bits, with_real}
+use Rattle.report_write.proofs.Kept.{packs, bits_told, content_told}
 use Rattle.report_write.proofs.content_of.Goals as goal
+
+pub unwrap-packed-requires : goal.unwrap-packed-requires
+unwrap-packed-requires c = rw (c.pack.ensures, packs c.args.r c.requires)
 
 pub prefixed-requires : goal.prefixed-requires
 prefixed-requires c =
@@ -22,15 +21,14 @@ prefixed-requires c =
 
 pub overflow_add-result : goal.overflow_add-result
 overflow_add-result c =
-    let at = c.items_at-at.ensures in
-    let size = c.bits.ensures ∙ ap (λ (p : Packed). bits_packed p.answer) c.pack-packed.ensures in
-    omega (arith, at, size, all-bits c.args.r c.requires, content_short c.args.r c.requires)
+    let r = c.args.r in
+    let got : packed_of r.items ≡ Ok c.unwrap-packed.result = sym c.pack.ensures ∙ c.unwrap-packed.ensures in
+    omega (arith, bits_told r c.requires _ got _ c.items_at-at.ensures, content_short r c.requires)
 
 pub returns : goal.returns
 returns c =
     let r = c.args.r in
-    let p = c.pack-packed.ensures in
-    let at = c.items_at-at.ensures in
+    let got : packed_of r.items ≡ Ok c.unwrap-packed.result = sym c.pack.ensures ∙ c.unwrap-packed.ensures in
     ap₂ (λ (x : Content) (n : ℕ). let w : Rest = record { bits = x; left = n } in w)
-    (c.prefixed.ensures ∙ ap₂ (λ (n : ℕ) (q : Packed). kept (bits n r.real ++ take (128 - n) (bits_of q.content))) at p ∙ with_real r c.requires)
-    (ap₂ ◌+◌ at (c.bits.ensures ∙ ap (λ (q : Packed). bits_packed q.answer) p) ∙ all-bits r c.requires)
+    (c.prefixed.ensures ∙ content_told r c.requires _ got _ c.items_at-at.ensures)
+    (bits_told r c.requires _ got _ c.items_at-at.ensures)

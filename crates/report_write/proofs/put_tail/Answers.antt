@@ -8,7 +8,7 @@ use Rattle.content.specs.Halves.{bits_of}
 use Rattle.content.specs.Packing.{group_bits}
 use Rattle.content.proofs.Halves.{length-bits_of}
 use Rattle.report_write.specs.Write.{tail_word}
-use Rattle.report_write.proofs.Tail.{made_none, made_more, made_all, same-cells, same_word, later-fits, moved}
+use Rattle.report_write.proofs.Tail.{made_none, made_more, made_all, same_word, later-fits, moved}
 use Rattle.report_write.proofs.put_tail.Goals as goal
 
 pub loop-i-init : goal.loop-i-init
@@ -23,11 +23,6 @@ later_number-requires c =
     let small = subst (λ (n : ℕ). n < 2 ^ group_bits) (sym c.first_bits-bits.ensures) (val-take_lt group_bits (bits_of l.rest)) in
     later-fits _ _ _ _ small c.requires.0 (omega arith) (omega arith)
 
-pub bounds-out-i : goal.bounds-out-i
-bounds-out-i c =
-    let l = c.loop-i in
-    omega (arith, same-cells c.args.ci c.args.out.now (bits_of c.args.content) l.out (bits_of l.rest) l.i l.invariant c.requires.1 (length-bits_of c.args.content))
-
 pub loop-i-preserved : goal.loop-i-preserved
 unfolding tail_word
 loop-i-preserved c =
@@ -37,11 +32,6 @@ loop-i-preserved c =
     c.later_number.result (bits_of c.shifted_left-rest.result) c.loop-i-test.true
     (same_word _ _ _ _ _ _ _ c.later_number.ensures c.first_bits-bits.ensures (omega arith))
     (moved l.rest c.shifted_left-rest.result c.shifted_left-rest.ensures))
-
-pub shape_of-out : goal.shape_of-out
-shape_of-out c =
-    let l = c.loop-i in
-    same-cells c.args.ci c.args.out.now (bits_of c.args.content) l.out (bits_of l.rest) l.i l.invariant c.requires.1 (length-bits_of c.args.content)
 
 pub returns : goal.returns
 returns c =

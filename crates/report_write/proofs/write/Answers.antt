@@ -9,21 +9,21 @@ pub write_single-requires : goal.write_single-requires
 unfolding can_write
 write_single-requires c =
     let a = c.args in
-    let ok : can_write a.ci a.report ≡ true = ap₂ (λ (x y : Bool). x && y) (sym c.fits.ensures) (sym c.index_fits.ensures) ∙ c.if-fits-index_fits.true in
+    let ok : can_write a.ci a.report ≡ true = ap₂ (λ (x y : Bool). x && y) (sym c.fits.ensures) (sym c.index_fits.ensures) ∙ c.if-not-fits-index_fits.false in
     single-fits a.ci a.report ok c.in-Single.is
 
 pub write_multi-requires : goal.write_multi-requires
 unfolding can_write
 write_multi-requires c =
     let a = c.args in
-    let ok : can_write a.ci a.report ≡ true = ap₂ (λ (x y : Bool). x && y) (sym c.fits.ensures) (sym c.index_fits.ensures) ∙ c.if-fits-index_fits.true in
+    let ok : can_write a.ci a.report ≡ true = ap₂ (λ (x y : Bool). x && y) (sym c.fits.ensures) (sym c.index_fits.ensures) ∙ c.if-not-fits-index_fits.false in
     (multi-fits a.ci a.report ok c.in-Multi.is, multi_index a.ci a.report ok c.in-Multi.is)
 
 pub returns-in-Single : goal.returns-in-Single
 unfolding can_write
 returns-in-Single c =
     let a = c.args in
-    let ok : can_write a.ci a.report ≡ true = ap₂ (λ (x y : Bool). x && y) (sym c.fits.ensures) (sym c.index_fits.ensures) ∙ c.if-fits-index_fits.true in
+    let ok : can_write a.ci a.report ≡ true = ap₂ (λ (x y : Bool). x && y) (sym c.fits.ensures) (sym c.index_fits.ensures) ∙ c.if-not-fits-index_fits.false in
     let w = single-written a.ci a.report ok a.out.now c.in-Single.is in
     record { value = c.write_single.ensures.value ∙ w.0; out_after = c.write_single.ensures.out_after ∙ w.1 }
 
@@ -31,12 +31,12 @@ pub returns-in-Multi : goal.returns-in-Multi
 unfolding can_write
 returns-in-Multi c =
     let a = c.args in
-    let ok : can_write a.ci a.report ≡ true = ap₂ (λ (x y : Bool). x && y) (sym c.fits.ensures) (sym c.index_fits.ensures) ∙ c.if-fits-index_fits.true in
+    let ok : can_write a.ci a.report ≡ true = ap₂ (λ (x y : Bool). x && y) (sym c.fits.ensures) (sym c.index_fits.ensures) ∙ c.if-not-fits-index_fits.false in
     let w = multi-written a.ci a.report ok a.out.now c.in-Multi.is in
     record { value = c.write_multi.ensures.value ∙ w.0; out_after = c.write_multi.ensures.out_after ∙ w.1 }
 
-pub returns-else-fits-index_fits : goal.returns-else-fits-index_fits
+pub returns-then-not-fits-index_fits : goal.returns-then-not-fits-index_fits
 unfolding can_write
-returns-else-fits-index_fits c =
+returns-then-not-fits-index_fits c =
     let a = c.args in
-    let unfit : can_write a.ci a.report ≡ false = ap₂ (λ (x y : Bool). x && y) (sym c.fits.ensures) (sym c.index_fits.ensures) ∙ c.if-fits-index_fits.false in let both = not_written a.ci a.report unfit a.out.now in record { value = both.0; out_after = both.1 }
+    let unfit : can_write a.ci a.report ≡ false = ap₂ (λ (x y : Bool). x && y) (sym c.fits.ensures) (sym c.index_fits.ensures) ∙ c.if-not-fits-index_fits.true in let both = not_written a.ci a.report unfit a.out.now in record { value = both.0; out_after = both.1 }

@@ -5,7 +5,6 @@ use mathlib.Core.List.{List, ◌∷◌, ◌++◌}
 use native.Mathlib.Omega.{arith}
 use lib.ListN.{length, take, drop, set, length-set, length-drop}
 use lib.Seq.{length-take-le}
-use borrow.Rule.Slice.PartMut.{same_len_mid}
 use Rattle.bits.specs.Bits.{val}
 use Rattle.bits.specs.Fields.{pack}
 use Rattle.bits.proofs.Value.{val-take_lt}
@@ -17,7 +16,7 @@ use Rattle.content.specs.Halves.{bits_of, starting_with}
 use Rattle.content.specs.Packing.{zeros, group_bits, groups}
 use Rattle.report.specs.declared.Report.{Report}
 use Rattle.report.specs.InterRoad.{content_of}
-use Rattle.bits.specs.declared.Writing.TheVariants.{Written}
+use Rattle.std.specs.Prelude.{Ok}
 use Rattle.report_write.specs.Write.{later_words, multi_words}
 use Rattle.report_write.proofs.Buffer.{two_and_more, with_room, no_room}
 use Rattle.report_write.proofs.Tail.{same_word, same-tail, later-fits, moved}
@@ -33,9 +32,6 @@ tail-cells : (out : List ℕ) (x y m : ℕ) → m ≤ length out → length (tak
 tail-cells out x y m h =
     let two = set (set out 0 x) 1 y in
     length-take-le (m - 2) (drop 2 two) (omega (arith, length-drop 2 two, length-set (set out 0 x) 1 y, length-set out 0 x))
-
-pub content_of-whole-requires : goal.content_of-whole-requires
-content_of-whole-requires c = c.requires.0
 
 pub first_number-requires : goal.first_number-requires
 first_number-requires c =
@@ -57,35 +53,16 @@ later_number-requires c =
     let small = subst (λ (n : ℕ). n < 2 ^ group_bits) (sym c.first_bits-bits.ensures) (val-take_lt group_bits (bits_of c.content_of-whole.result.bits)) in
     later-fits _ _ _ _ small (omega arith) (omega arith) (omega arith)
 
-pub bounds-out-1 : goal.bounds-out-1
-bounds-out-1 c =
-    let out = c.args.out.now in
-    omega (arith, c.if-end-out.true, c.groups-end.ensures, length-set out 0 c.first_number.result)
-
-pub slice_bounds-put_tail-end : goal.slice_bounds-put_tail-end
-slice_bounds-put_tail-end c =
-    let out = c.args.out.now in
-    let x = c.first_number.result in
-    let y = c.later_number.result in
-    omega (arith, c.if-end-out.true, c.groups-end.ensures, length-set (set out 0 x) 1 y, length-set out 0 x)
-
 pub put_tail-requires : goal.put_tail-requires
 put_tail-requires c =
     let k = counted _ c.args.r _ c.content_of-whole.ensures c.groups-end.ensures in
-    let size = tail-cells c.args.out.now c.first_number.result c.later_number.result c.groups-end.result c.if-end-out.true in
+    let size = tail-cells c.args.out.now c.first_number.result c.later_number.result c.groups-end.result c.if-out-end.false in
     let index = index_lt c.args.ci c.requires.1 in
     (omega arith, omega (arith, k, size, few c.args.ci c.args.r c.requires.0))
 
-pub shape_of-out : goal.shape_of-out
-shape_of-out c =
-    let out = c.args.out.now in
-    same_len_mid 2 (c.groups-end.result - 2) (set (set out 0 _) 1 _) c.put_tail.new.out c.put_tail.auto.out
-    ∙ length-set (set out 0 _) 1 _
-    ∙ length-set out 0 _
-
-pub returns-then-end-out : goal.returns-then-end-out
+pub returns : goal.returns
 unfolding multi_words later_words
-returns-then-end-out c =
+returns c =
     let out = c.args.out.now in
     let r = c.args.r in
     let ci = c.args.ci in
@@ -93,7 +70,7 @@ returns-then-end-out c =
     let x = c.first_number.result in
     let y = c.later_number.result in
     let ys = c.put_tail.new.out in
-    let room = c.if-end-out.true in
+    let room = c.if-out-end.false in
     let whole = c.content_of-whole.result in
     let w = c.content_of-whole.ensures in
     let k = counted _ r _ w c.groups-end.ensures in
@@ -113,12 +90,12 @@ returns-then-end-out c =
     (left ∙ sym (length-words group_bits _ (bits_of shifted))))
     (same-tail _ _ _ _ _ c.put_tail.ensures (size ∙ left)))
     ∙ sym (ap (λ (cs : List ℕ). val (pack head_format (first_values ci r.head)) ∷ later_words ci cs) contents) in record {
-      value = ap Written n ∙ all.0;
+      value = ap Ok n ∙ all.0;
       out_after = two_and_more out x y (m - 2) (m - 2) ys (omega arith) refl
           ∙ ap₂ (λ (ws : List ℕ) (i : ℕ). ws ++ drop i out) made (j ∙ n)
           ∙ all.1;
     }
 
-pub returns-else-end-out : goal.returns-else-end-out
-returns-else-end-out c =
+pub returns-then-out-end : goal.returns-then-out-end
+returns-then-out-end c =
     let k = counted _ c.args.r _ c.content_of-whole.ensures c.groups-end.ensures in let both = no_room (multi_words c.args.ci c.args.r) c.args.out.now (omega (arith, length-multi c.args.ci c.args.r c.requires.0, k)) in record { value = both.0; out_after = both.1 }

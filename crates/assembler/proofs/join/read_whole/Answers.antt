@@ -1,8 +1,6 @@
 -- The joined bits are those of the contents in order.
 use mathlib.Core.Path.{ap, ◌∙◌}
-use mathlib.Core.Bool.{Bool}
-use mathlib.Core.List.{List}
-use Rattle.report.specs.Read.{read_bits, read_report, outcome_of}
+use Rattle.report.specs.Read.{read_bits, read_report}
 use Rattle.assembler.proofs.States.{opened, few}
 use Rattle.assembler.proofs.join.read_whole.Goals as goal
 
@@ -11,5 +9,4 @@ joined-bits-requires c = few _ _ (opened c.args.p c.requires).count
 
 pub returns : goal.returns
 unfolding read_report
-returns c =
-    c.multi.ensures ∙ ap (λ (l : List Bool). outcome_of (read_bits c.args.p.head l)) c.joined-bits.ensures
+returns c = c.multi.ensures ∙ ap (read_bits c.args.p.head) c.joined-bits.ensures

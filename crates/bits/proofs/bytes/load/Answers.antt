@@ -3,17 +3,10 @@ use Prim.Native.Nat.{ℕ, ◌+◌, ◌-◌, ◌*◌, ◌^◌}
 use native.Mathlib.Omega.{arith}
 use mathlib.Core.Path.{◌≡◌, ap, ap₂, ◌∙◌}
 use lib.ListN.{length, take, drop, length-drop}
-use lib.Seq.{length-take-le}
 use Rattle.bits.specs.Bits.{val}
 use Rattle.bits.specs.Fields.{flat}
 use Rattle.bits.proofs.Loading.{load_parts, load_lt}
 use Rattle.bits.proofs.bytes.load.Goals as goal
-
-pub slice_bounds-fold-end : goal.slice_bounds-fold-end
-slice_bounds-fold-end c = omega (arith, length-take-le 4 c.args.s.now (omega arith))
-
-pub fold-requires : goal.fold-requires
-fold-requires c = omega (arith, length-take-le 4 c.args.s.now (omega arith))
 
 pub overflow_mul-result : goal.overflow_mul-result
 overflow_mul-result c = omega (arith, c.fold.ensures, load_lt c.args.s.now 4 4 (omega arith) (omega arith))

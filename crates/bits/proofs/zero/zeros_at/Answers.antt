@@ -1,7 +1,7 @@
--- The bits passed are zero, so the stretch is zero exactly if what is left of it is.
-use Prim.Native.Nat.{ℕ, ◌+◌, ◌-◌, ◌≤◌}
+-- The stretches of 56 bits passed are zero, so all is zero exactly if what is left is.
+use Prim.Native.Nat.{ℕ, ◌+◌, ◌-◌, ◌*◌, ◌/◌, ◌%◌, ◌≤◌}
 use native.Mathlib.Omega.{arith}
-use mathlib.Core.Path.{◌≡◌, refl, sym, ap, ap₂, ◌∙◌}
+use mathlib.Core.Path.{◌≡◌, sym, ap, ap₂, ◌∙◌}
 use mathlib.Core.Bool.{Bool, ◌&&◌}
 use mathlib.Core.List.{List}
 use lib.ListN.{take, drop}
@@ -23,31 +23,35 @@ cut l p left m h =
     ∙ all_zero-append (stretch p m l) (take (left - m) (drop m (drop p l)))
     ∙ ap₂ (λ (a : Bool) (b : List Bool). a && all_zero (take (left - m) b)) (all_zero-val (stretch p m l)) (drop-drop m p l)
 
-pub loop-left-init : goal.loop-left-init
-loop-left-init c = (refl, refl)
-
 pub returns-then-bits_at-ne0 : goal.returns-then-bits_at-ne0
 returns-then-bits_at-ne0 c =
     let a = c.args in
-    let l = c.loop-left in
-    let x = val (stretch l.p 56 (flat 8 a.s.now)) in
-    sym (l.invariant.1
-    ∙ cut (flat 8 a.s.now) l.p l.left 56 (omega arith)
-    ∙ ap (λ (b : Bool). b && all_zero (stretch (l.p + 56) (l.left - 56) (flat 8 a.s.now))) (ne_eqb x 0 (λ e. c.if-bits_at-ne0.true (c.bits_at.ensures ∙ e))))
+    let l = c.loop-k in
+    let p = a.at + l.k * 56 in
+    let x = val (stretch p 56 (flat 8 a.s.now)) in
+    sym (l.invariant
+    ∙ cut (flat 8 a.s.now) p (a.n - l.k * 56) 56 (omega arith)
+    ∙ ap (λ (b : Bool). b && all_zero (stretch (p + 56) (a.n - l.k * 56 - 56) (flat 8 a.s.now))) (ne_eqb x 0 (λ e. c.if-bits_at-ne0.true (c.bits_at.ensures ∙ e))))
 
-pub loop-left-preserved : goal.loop-left-preserved
-loop-left-preserved c =
+pub loop-k-preserved : goal.loop-k-preserved
+loop-k-preserved c =
     let a = c.args in
-    let l = c.loop-left in
-    let x = val (stretch l.p 56 (flat 8 a.s.now)) in (
-      omega arith,
-      l.invariant.1
-          ∙ cut (flat 8 a.s.now) l.p l.left 56 (omega arith)
-          ∙ ap (λ (b : Bool). b && all_zero (stretch (l.p + 56) (l.left - 56) (flat 8 a.s.now))) (eq-eqb x 0 (sym c.bits_at.ensures ∙ c.if-bits_at-ne0.false)),
-    )
+    let l = c.loop-k in
+    let p = a.at + l.k * 56 in
+    let x = val (stretch p 56 (flat 8 a.s.now)) in
+    let next : p + 56 ≡ a.at + (l.k + 1) * 56 = omega arith in
+    let left : a.n - l.k * 56 - 56 ≡ a.n - (l.k + 1) * 56 = omega arith in
+    l.invariant
+    ∙ cut (flat 8 a.s.now) p (a.n - l.k * 56) 56 (omega arith)
+    ∙ ap (λ (b : Bool). b && all_zero (stretch (p + 56) (a.n - l.k * 56 - 56) (flat 8 a.s.now))) (eq-eqb x 0 (sym c.bits_at.ensures ∙ c.if-bits_at-ne0.false))
+    ∙ ap₂ (λ (q m : ℕ). all_zero (stretch q m (flat 8 a.s.now))) next left
 
 pub returns : goal.returns
 returns c =
     let a = c.args in
-    let l = c.loop-left in
-    ap (λ (x : ℕ). eqb x 0) c.bits_at-2.ensures ∙ sym (all_zero-val (stretch l.p l.left (flat 8 a.s.now))) ∙ sym l.invariant.1
+    let l = c.loop-k in
+    let last : l.k ≡ a.n / 56 = omega arith in
+    let left : a.n - a.n / 56 * 56 ≡ a.n % 56 = omega arith in
+    ap (λ (x : ℕ). eqb x 0) c.bits_at-2.ensures
+    ∙ sym (all_zero-val (stretch (a.at + a.n / 56 * 56) (a.n % 56) (flat 8 a.s.now)))
+    ∙ sym (l.invariant ∙ ap (λ (k : ℕ). all_zero (stretch (a.at + k * 56) (a.n - k * 56) (flat 8 a.s.now))) last ∙ ap (λ (m : ℕ). all_zero (stretch (a.at + a.n / 56 * 56) m (flat 8 a.s.now))) left)

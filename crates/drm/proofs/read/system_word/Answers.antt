@@ -8,9 +8,6 @@ use Rattle.drm.proofs.Front.{field_lt}
 use Rattle.drm.proofs.Body.{word_at, word-past}
 use Rattle.drm.proofs.read.system_word.Goals as goal
 
-pub bits_at-requires : goal.bits_at-requires
-bits_at-requires c = omega (arith, c.requires.0 c.if-i-m.true, c.if-i-m.true)
-
 pub overflow_cast-result : goal.overflow_cast-result
 overflow_cast-result c =
     let p = c.args.p.now in

@@ -1,20 +1,8 @@
--- The flag where TMCHI is not 0.
-use mathlib.Core.Path.{sym, ◌∙◌}
+-- A flag is one bit.
+use native.Mathlib.Omega.{arith}
 use Rattle.bits.specs.Fields.{flat}
-use Rattle.bits.proofs.Choice.{chosen, passed_over}
-use Rattle.drm.specs.Payload.{ua_flag}
-use Rattle.drm.proofs.Front.{bits_in, no_header, a_header}
+use Rattle.drm.proofs.Front.{bit_lt}
 use Rattle.drm.proofs.read.ua_flag.Goals as goal
 
-pub returns-then-bits_at-eq0 : goal.returns-then-bits_at-eq0
-unfolding ua_flag
-returns-then-bits_at-eq0 c =
-    let p = c.args.p.now in
-    sym (chosen _ _ _ (no_header (flat 8 p) (bits_in p c.requires) c.bits_at.result c.bits_at.ensures c.if-bits_at-eq0.true))
-
-pub returns-else-bits_at-eq0 : goal.returns-else-bits_at-eq0
-unfolding ua_flag
-returns-else-bits_at-eq0 c =
-    let p = c.args.p.now in
-    let call = c.bits_at in
-    c.bits_at-else-bits_at-eq0.ensures ∙ sym (passed_over _ _ _ (a_header (flat 8 p) (bits_in p c.requires) call.result call.ensures c.if-bits_at-eq0.false))
+pub returns-else-tmchi-eq0-clause-small : goal.returns-else-tmchi-eq0-clause-small
+returns-else-tmchi-eq0-clause-small c = omega (arith, c.bits_at.ensures, bit_lt 7 (flat 8 c.args.p.now))

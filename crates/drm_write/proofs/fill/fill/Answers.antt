@@ -1,7 +1,7 @@
 -- The check word is put behind the bytes that it is worked out from.
 use Prim.Native.Nat.{ℕ, ◌-◌, ◌≤◌}
 use native.Mathlib.Omega.{arith}
-use mathlib.Core.Path.{◌≡◌, sym, ap, ◌∙◌}
+use mathlib.Core.Path.{◌≡◌, ap, ◌∙◌}
 use lib.ListN.{length}
 use Rattle.bits.specs.Fields.{words}
 use Rattle.bits.proofs.Fields.{length-words}
@@ -9,13 +9,6 @@ use Rattle.crc.specs.Block.{payload, checked}
 use Rattle.crc.proofs.Blocks.{length-payload, check-behind}
 use Rattle.drm_write.specs.Write.{payload_length, payload_bits, unit_bytes}
 use Rattle.drm_write.proofs.fill.fill.Goals as goal
-
-pub slice_bounds-fill_payload-end-2 : goal.slice_bounds-fill_payload-end-2
-slice_bounds-fill_payload-end-2 c = sym (length-payload c.args.s.now)
-
-pub fill_payload-requires : goal.fill_payload-requires
-fill_payload-requires c =
-    (c.requires.0, omega (arith, length-payload c.args.s.now, c.requires.1))
 
 pub returns : goal.returns
 unfolding unit_bytes

@@ -1,11 +1,11 @@
 -- The two numbers are the front and the system words.
-use Prim.Native.Nat.{ℕ, ◌*◌, ◌-◌, ◌<◌}
+use Prim.Native.Nat.{◌<◌}
 use native.Mathlib.Omega.{arith}
-use mathlib.Core.Path.{sym, ap, subst, ◌∙◌}
+use mathlib.Core.Path.{ap, ◌∙◌}
 use lib.ListN.{length}
-use lib.Pow.{pow_pos}
 use Rattle.bits.specs.Fields.{words}
-use Rattle.drm_write.proofs.Ranges.{front_bound, short, ranges, start_fits, header-fits}
+use Rattle.lto.proofs.Ranges.{near_field}
+use Rattle.drm_write.proofs.Ranges.{short, ranges, start_fits, header-fits}
 use Rattle.drm_write.proofs.Fronts.{laid_out}
 use Rattle.drm_write.proofs.fill.fill_payload.Goals as goal
 
@@ -13,19 +13,19 @@ pub overflow_sub-system : goal.overflow_sub-system
 overflow_sub-system c =
     omega (arith, (ranges c.args.unit _ c.requires.0).system)
 
-pub nonzero_div-messages : goal.nonzero_div-messages
-nonzero_div-messages c = subst (λ (n : ℕ). 0 < n) (sym c.pow2.ensures) (pow_pos (48 - c.args.unit.system * 16))
-
 pub front_number-requires : goal.front_number-requires
 front_number-requires c =
-    let ecc : c.args.unit.ecc < 256 = omega arith in
-    (start_fits c.args.unit _ c.requires.0, header-fits c.args.unit _ c.requires.0 ecc)
+    let ecc : c.args.unit.ecc < 256 = omega arith in (
+      start_fits c.args.unit _ c.requires.0,
+      header-fits c.args.unit _ c.requires.0 ecc,
+      near_field c.args.unit.lto (ranges c.args.unit _ c.requires.0).lto,
+    )
 
 pub lay-requires : goal.lay-requires
 lay-requires c =
     let u = c.args.unit in
-    let w = c.front_width.ensures in (
-      omega (arith, w, (front_bound u).1),
+    let w = c.front_width.ensures.value in (
+      c.front_width.ensures.few,
       omega (arith, (ranges u _ c.requires.0).system),
       omega (arith, c.requires.1, short u _ c.requires.0),
       omega (arith, c.requires.1, w),
@@ -40,4 +40,4 @@ returns c =
     c.lay.ensures
     ∙ ap (words 8 (length c.args.s.now))
     (laid_out u (start_fits u _ fit) (header-fits u _ fit ecc) ws c.front_width.result c.front_number.result c.system_number.result c.pow2.result
-    (ranges u _ fit).system c.front_width.ensures c.front_number.ensures c.system_number.ensures c.pow2.ensures)
+    (ranges u _ fit).system c.front_width.ensures.value c.front_number.ensures c.system_number.ensures c.pow2.ensures)

@@ -19,11 +19,11 @@ origin-of w = origin_of w.fig
 abbrev pub found_in : List ℕ → List ℕ → List ℕ → List Carried
 found_in s words₀ origins₀ = (over 0 (room_in words₀ origins₀) s).found
 
-abbrev pub invariant-loop-fib : goal.invariant-loop-fib
-invariant-loop-fib l =
+abbrev pub invariant-loop-n : goal.invariant-loop-n
+invariant-loop-n l =
     Reached l.s (room_in l.initial.words l.initial.origins) l.fib.at l.fib.count
     × (l.words ≡ cells_after word-of (take l.fib.count (found_in l.s l.initial.words l.initial.origins)) l.initial.words)
     × (l.origins ≡ cells_after origin-of (take l.fib.count (found_in l.s l.initial.words l.initial.origins)) l.initial.origins)
 
-abbrev pub decreases-loop-fib : goal.decreases-loop-fib
-decreases-loop-fib l = length l.s - l.fib.at
+abbrev pub decreases-loop-n : goal.decreases-loop-n
+decreases-loop-n l = length l.s - l.fib.at

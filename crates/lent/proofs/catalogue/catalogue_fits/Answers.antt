@@ -1,36 +1,26 @@
--- Whether the entries passed fit.
-use Prim.Native.Nat.{◌+◌, ◌≤◌, ◌<◌}
-use mathlib.Core.Path.{refl, sym, ap, ap₂, ◌∙◌}
-use native.Mathlib.Omega.{arith}
-use mathlib.Core.Bool.{Bool, ◌&&◌}
-use lib.ListN.{length, drop}
-use borrow.Author.Tests.{eq-eqb, ne_eqb}
+-- Every entry, in order.
+use Prim.Native.Nat.{ℕ}
+use mathlib.Core.Path.{◌≡◌, sym, ap, ◌∙◌}
+use mathlib.Core.Bool.{Bool, true, ◌&&◌, and_assoc, and-true}
+use mathlib.Core.List.{List, [], ◌∷◌}
+use lib.ListN.{length}
+use borrow.Author.Tests.{eq-eqb}
+use Rattle.std.specs.List.{fold}
+use Rattle.std.proofs.Common.{rules, tests}
+use Rattle.std.proofs.lemmas.Iterator.{YieldsList-from_slice}
+use Rattle.std.proofs.lemmas.Iterator.Consumers.{fold_from_yields_List}
 use Rattle.lent.specs.Records.{all_of}
 use Rattle.lent.specs.Catalogue.{entry_fits, catalogue_fits}
-use Rattle.lent.proofs.Passes.{entry_after, entry_done}
 use Rattle.lent.proofs.catalogue.catalogue_fits.Goals as goal
 
-pub returns-then-c-ne-EVENTS : goal.returns-then-c-ne-EVENTS
-unfolding catalogue_fits
-returns-then-c-ne-EVENTS c =
-    let l = c.args.c.now in
-    sym (ap (λ (b : Bool). b && all_of entry_fits l) (ne_eqb (length l) 2048 c.if-c-ne-EVENTS.true))
-
-pub loop-i-init : goal.loop-i-init
-loop-i-init c = (omega arith, refl)
-
-pub loop-i-preserved : goal.loop-i-preserved
-loop-i-preserved c =
-    let l = c.args.c.now in
-    let at = c.loop-i in
-    let h : at.i < length l = omega arith in
-    let rest = all_of entry_fits (drop (at.i + 1) l) in
-    (omega arith, at.invariant.1 ∙ entry_after entry_fits l at.i at.fits h ∙ ap (λ (b : Bool). (at.fits && b) && rest) (sym c.fits-fits.ensures))
+folded : (p : ℕ → Bool) (b : Bool) (xs : List ℕ) → fold (λ (a : Bool) (x : ℕ). a && p x) b xs ≡ b && all_of p xs
+folded p b [] = sym (and-true b)
+folded p b (x ∷ xs) = folded p (b && p x) xs ∙ and_assoc b (p x) (all_of p xs)
 
 pub returns : goal.returns
 unfolding catalogue_fits
 returns c =
     let l = c.args.c.now in
-    let at = c.loop-i in
-    let past : length l ≤ at.i = omega arith in
-    sym (ap₂ (λ (a b : Bool). a && b) (eq-eqb (length l) 2048 c.if-c-ne-EVENTS.false) (at.invariant.1 ∙ entry_done entry_fits l at.i at.fits past at.invariant.0))
+    fold_from_yields_List _ (λ a x. a && entry_fits x) true _ c.fold.ensures.ran (YieldsList-from_slice l (cc)) (λ a x b q k. search (rules, tests))
+    ∙ folded entry_fits true l
+    ∙ sym (ap (λ (b : Bool). b && all_of entry_fits l) (eq-eqb (length l) 2048 c.if-c-ne-EVENTS.false))

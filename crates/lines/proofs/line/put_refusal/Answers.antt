@@ -1,29 +1,23 @@
--- The frame's number and the refusal, and its place where it has one.
-use native.Mathlib.Omega.{arith}
-use mathlib.Core.Path.{sym, ap}
-use Rattle.lines.specs.Line.{refusal_line}
+-- The frame's number and the refusal's, and the place where it has one.
+use Prim.Native.Nat.{ℕ}
+use mathlib.Core.Path.{sym, ap, ◌∙◌}
+use mathlib.Core.List.{[], ◌∷◌}
+use Rattle.refusal.specs.Number.{number}
+use Rattle.lines.specs.Line.{marked, refusal_line}
 use Rattle.lines.proofs.Puts.{put_as}
-use Rattle.lines.proofs.Rooms.{two-fit, three_fit}
 use Rattle.lines.proofs.line.put_refusal.Goals as goal
 
-pub put_marked-requires : goal.put_marked-requires
-put_marked-requires c =
-    omega (arith, c.requires, two-fit c.args.frame c.in-Plain.number (omega arith) (omega arith))
-
-pub put_marked-requires-in-Broken : goal.put_marked-requires-in-Broken
-put_marked-requires-in-Broken c =
-    omega (arith, c.requires, three_fit c.args.frame c.in-Broken.number c.in-Broken.place (omega arith) (omega arith) (omega arith))
-
-pub returns-in-Plain : goal.returns-in-Plain
+pub returns-in-Refused-clause-put : goal.returns-in-Refused-clause-put
 unfolding refusal_line
-returns-in-Plain c =
+returns-in-Refused-clause-put c =
     let a = c.args in
-    let put = c.put_marked.ensures in
-    record { put = put_as a.at a.out.now _ _ (sym (ap (refusal_line a.frame) c.in-Plain.is)) put; upper_bound = omega (arith, put.0, two-fit a.frame c.in-Plain.number (omega arith) (omega arith)) }
+    let told = ap (λ (n : ℕ). marked (a.frame ∷ n ∷ [])) (c.from-in-Refused.ensures ∙ c.from.ensures) in
+    put_as a.at a.out.now _ _ (told ∙ sym (ap (refusal_line a.frame) c.in-Refused.is)) c.put_marked.ensures.put
 
-pub returns-in-Broken : goal.returns-in-Broken
+pub returns-in-Broken-clause-put : goal.returns-in-Broken-clause-put
 unfolding refusal_line
-returns-in-Broken c =
+returns-in-Broken-clause-put c =
     let a = c.args in
-    let put = c.put_marked-in-Broken.ensures in
-    record { put = put_as a.at a.out.now _ _ (sym (ap (refusal_line a.frame) c.in-Broken.is)) put; upper_bound = omega (arith, put.0, three_fit a.frame c.in-Broken.number c.in-Broken.place (omega arith) (omega arith) (omega arith)) }
+    let told = ap (λ (n : ℕ). marked (a.frame ∷ n ∷ c.from-in-Broken-3.result ∷ [])) (c.from-in-Broken-2.ensures ∙ c.from-in-Broken.ensures) in
+    let placed = ap (λ (n : ℕ). marked (a.frame ∷ number c.in-Broken.refusal ∷ n ∷ [])) c.from-in-Broken-3.ensures in
+    put_as a.at a.out.now _ _ (told ∙ placed ∙ sym (ap (refusal_line a.frame) c.in-Broken.is)) c.put_marked-in-Broken.ensures.put

@@ -6,11 +6,8 @@ use mathlib.Core.List.{[], ◌∷◌}
 use lib.ListN.{length, length-append}
 use Rattle.lines.specs.Decimal.{digit, decimal}
 use Rattle.lines.proofs.Puts.{put_as, put_then}
-use Rattle.lines.proofs.Decimals.{decimal_digit, decimal-more}
+use Rattle.lines.proofs.Decimals.{decimal-more}
 use Rattle.lines.proofs.text.+put_decimal.Goals as goal
-
-pub put_byte-requires : goal.put_byte-requires
-put_byte-requires t c = omega (arith, c.requires, ap length (decimal_digit c.args.n c.if-n-lt10.true))
 
 pub put_decimal-next-requires : goal.put_decimal-next-requires
 put_decimal-next-requires t c =
@@ -22,12 +19,6 @@ put_byte-requires-else-n-lt10 t c =
     let n = c.args.n in
     let call = c.put_decimal-next in
     omega (arith, c.requires, call.ensures.0, call.auto.out, ap length (decimal-more n c.if-n-lt10.false), length-append (decimal (n / 10)) (digit (n % 10) ∷ []))
-
-pub returns-then-n-lt10 : goal.returns-then-n-lt10
-returns-then-n-lt10 t c =
-    let a = c.args in
-    let call = c.put_byte in
-    put_as a.at a.out.now _ _ (ap (λ (b : ℕ). b ∷ []) c.digit.ensures ∙ sym (decimal_digit a.n c.if-n-lt10.true)) call.ensures
 
 pub returns-else-n-lt10 : goal.returns-else-n-lt10
 returns-else-n-lt10 t c =

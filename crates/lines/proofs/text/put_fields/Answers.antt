@@ -1,38 +1,35 @@
--- The numbers from i on are still to be put.
-use Prim.Native.Nat.{ℕ, ◌+◌}
+-- The numbers up to the index are put.
 use native.Mathlib.Omega.{arith}
-use mathlib.Core.Path.{ap, subst}
-use mathlib.Core.List.{List, ◌∷◌}
-use lib.ListN.{length, drop, get_or, length-append, drop_of_length-le}
+use mathlib.Core.Path.{ap}
+use lib.ListN.{get_or, take}
+use lib.Seq.{take_all}
+use Rattle.std.proofs.Common.{rules, ◌∷◌}
 use Rattle.lines.specs.Decimal.{decimal}
 use Rattle.lines.specs.Line.{space, fields}
-use Rattle.lines.proofs.Puts.{Left, left_all, left_more, left_none}
-use Rattle.lines.proofs.Rooms.{fields-next}
+use Rattle.lines.proofs.Puts.{put_as, put_then, put_nothing}
+use Rattle.lines.proofs.Rooms.{fields-more}
 use Rattle.lines.proofs.text.put_fields.Goals as goal
 
-pub loop-i-init : goal.loop-i-init
-loop-i-init c = (omega arith, left_all _ _ _)
-
-pub put_field-p-requires : goal.put_field-p-requires
-put_field-p-requires c =
-    let l = c.loop-i in
-    let a = c.args in
-    omega (arith, l.invariant.1.position, l.invariant.1.same, c.requires, ap length (fields-next a.values.now l.i c.loop-i-test.true), length-append (space ∷ decimal (get_or a.values.now l.i 0)) (fields (drop (l.i + 1) a.values.now)))
-
-pub loop-i-preserved : goal.loop-i-preserved
-loop-i-preserved c =
-    let l = c.loop-i in
-    let a = c.args in
-    let call = c.put_field-p in
-    let next = fields-next a.values.now l.i c.loop-i-test.true in
-    (omega arith, left_more a.at (fields a.values.now) a.out.now (space ∷ decimal (get_or a.values.now l.i 0)) _ l.p _ l.out _ (omega (arith, l.invariant.1.position, l.invariant.1.same, c.requires)) (subst (λ (r : List ℕ). Left a.at (fields a.values.now) a.out.now r l.p l.out) next l.invariant.1) call.ensures call.auto.out)
-
-pub shape_of-out : goal.shape_of-out
-shape_of-out c = c.loop-i.invariant.1.same
-
-pub returns : goal.returns
+pub loop-value-init : goal.loop-value-init
 unfolding fields
-returns c =
-    let l = c.loop-i in
+loop-value-init c = record { put = put_nothing c.args.at c.args.out.now; room = omega arith; same = search rules }
+
+pub loop-value-preserved : goal.loop-value-preserved
+loop-value-preserved c =
     let a = c.args in
-    left_none a.at (fields a.values.now) a.out.now _ _ (subst (λ (r : List ℕ). Left a.at (fields a.values.now) a.out.now (fields r) l.p l.out) (drop_of_length-le a.values.now c.loop-i-test.false) l.invariant.1)
+    let l = c.loop-value in
+    let call = c.put_field-end in
+    let i = l.value-index in
+    record {
+      put =
+          put_as a.at a.out.now call.result call.new.out (fields-more a.values.now i c.loop-value-test.true)
+          (put_then a.at (fields (take i a.values.now)) (space ∷ decimal (get_or a.values.now i 0)) a.out.now (omega (arith, c.requires)) l.invariant.put call.ensures.put);
+      room = omega (arith, l.invariant.room, call.ensures.upper_bound);
+      same = search rules;
+    }
+
+pub returns-clause-put : goal.returns-clause-put
+returns-clause-put c =
+    let a = c.args in
+    let l = c.loop-value in
+    put_as a.at a.out.now l.end l.out (ap fields (take_all l.value-index a.values.now c.loop-value-test.false)) l.invariant.put

@@ -1,11 +1,13 @@
-use Prim.Native.Nat.{◌-◌, ◌≤◌}
-use lib.ListN.{length, drop}
-use Rattle.lines.specs.Line.{fields}
-use Rattle.lines.proofs.Puts.{Left}
+use Prim.Native.Nat.{◌+◌, ◌*◌, ◌≤◌}
+use mathlib.Core.Path.{◌≡◌}
+use lib.ListN.{length, take}
+use Rattle.lines.specs.Text.{Put}
+use Rattle.lines.specs.Line.{fields, field_room}
 use Rattle.lines.proofs.text.put_fields.Given as goal
 
-abbrev pub invariant-loop-i : goal.invariant-loop-i
-invariant-loop-i l = (l.i ≤ length l.values) × Left l.at (fields l.values) l.initial.out (fields (drop l.i l.values)) l.p l.out
-
-abbrev pub decreases-loop-i : goal.decreases-loop-i
-decreases-loop-i l = length l.values - l.i
+abbrev pub invariant-loop-value : goal.invariant-loop-value
+invariant-loop-value l = record {
+  put : Put l.at (fields (take l.value-index l.values)) l.initial.out l.end l.out;
+  room : l.end ≤ l.at + field_room * l.value-index;
+  same : length l.out ≡ length l.initial.out;
+}

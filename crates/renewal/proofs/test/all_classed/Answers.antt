@@ -1,49 +1,52 @@
 -- The records passed have classes.
-use Prim.Native.Nat.{ℕ, ◌+◌, ◌-◌, ◌*◌, ◌/◌, ◌<◌}
+use Prim.Native.Nat.{ℕ, ◌<◌}
 use native.Mathlib.Omega.{arith}
 use mathlib.Core.Path.{◌≡◌, sym, ap, ◌∙◌}
 use mathlib.Core.Bool.{Bool, true, false, ◌&&◌}
-use mathlib.Core.List.{List}
-use lib.ListN.{length, take, drop}
+use mathlib.Core.List.{List, ◌++◌}
+use lib.ListN.{length}
+use Rattle.std.specs.Slice.Iter.{chunks_exact_rest, chunks_exact_size}
 use Rattle.record.specs.Layout.{record_size}
-use Rattle.record.specs.Gone.{one_record}
 use Rattle.record.proofs.Steps.{one_record_lem}
-use Rattle.lent.specs.Records.{records, all_of}
-use Rattle.lent.proofs.Passes.{nth, part_is, length_part, rest-whole, all-next, all_end}
-use Rattle.renewal.specs.Classes.{classed}
+use Rattle.lent.specs.Records.{all_of}
+use Rattle.lent.proofs.Passes.{records_cons, records_none}
+use Rattle.renewal.specs.Classes.{classed, all_classed}
 use Rattle.renewal.proofs.test.all_classed.Goals as goal
-use Rattle.renewal.proofs.test.all_classed.Invariants.{from}
 
--- the test of the part that is lent for record i
-lent-test : (t k : List ℕ) (i : ℕ) → i < length t / record_size → classed k (nth t i) ≡ one_record (classed k) (take (i * record_size + record_size - i * record_size) (drop (i * record_size) t))
-lent-test t k i h = ap (classed k) (sym (part_is t i)) ∙ sym (one_record_lem (classed k) _ (length_part t i h))
+-- one record, and those after it
+all_cons : (k l x rest : List ℕ) (b : Bool) → l ≡ x ++ rest → length x ≡ record_size → classed k x ≡ b → all_classed k l ≡ b && all_classed k rest
+all_cons k l x rest b e long has = ap (all_classed k) e ∙ ap (all_of (classed k)) (records_cons x rest long) ∙ ap (λ (c : Bool). c && all_classed k rest) has
 
--- by the test of record i
-by_test : (t k : List ℕ) (i : ℕ) (b : Bool) → i < length t / record_size → classed k (nth t i) ≡ b → from t k i ≡ b && from t k (i + 1)
-by_test t k i b h e = all-next (classed k) (length t / record_size) i t h ∙ ap (λ (x : Bool). x && from t k (i + 1)) e
+pub loop-record-init : goal.loop-record-init
+loop-record-init c =
+    let e = c.into_iter-record-iterator.ensures.into_iter_gives in
+    let whole : c.into_iter-record-iterator.result.rest.now ≡ c.args.t.now = ap chunks_exact_rest e ∙ c.chunks_exact-record-items.ensures.rest in
+    (ap chunks_exact_size e ∙ c.chunks_exact-record-items.ensures.size, ap (all_classed c.args.catalogue.now) (sym whole))
 
-pub loop-i-init : goal.loop-i-init
-loop-i-init c = let a = c.args in (omega arith, sym (ap (all_of (classed a.catalogue.now)) (rest-whole (length a.t.now / record_size) a.t.now)))
+pub loop-record-preserved : goal.loop-record-preserved
+loop-record-preserved c =
+    let k = c.args.catalogue.now in
+    let r = c.in-Some.record.now in
+    let step = c.in-Some.ensures.steps in
+    let before = c.loop-record.invariant in
+    let long = step.1.1 ∙ before.0 in
+    let has = sym (one_record_lem (classed k) r long) ∙ sym c.is_classed.ensures ∙ c.if-not-is_classed.false in
+    (step.0 ∙ before.0, before.1 ∙ all_cons k _ r _ true step.1.0 long has)
 
 pub returns-then-not-is_classed : goal.returns-then-not-is_classed
-unfolding records
 returns-then-not-is_classed c =
-    let a = c.args in
-    let l = c.loop-i in
-    let no = lent-test a.t.now a.catalogue.now l.i c.loop-i-test.true ∙ sym c.is_classed.ensures ∙ c.if-not-is_classed.true in
-    sym (l.invariant.1 ∙ by_test a.t.now a.catalogue.now l.i false c.loop-i-test.true no)
-
-pub loop-i-preserved : goal.loop-i-preserved
-loop-i-preserved c =
-    let a = c.args in
-    let l = c.loop-i in
-    let yes = lent-test a.t.now a.catalogue.now l.i c.loop-i-test.true ∙ sym c.is_classed.ensures ∙ c.if-not-is_classed.false in
-    (omega arith, l.invariant.1 ∙ by_test a.t.now a.catalogue.now l.i true c.loop-i-test.true yes)
+    let k = c.args.catalogue.now in
+    let r = c.in-Some.record.now in
+    let step = c.in-Some.ensures.steps in
+    let before = c.loop-record.invariant in
+    let long = step.1.1 ∙ before.0 in
+    let has = sym (one_record_lem (classed k) r long) ∙ sym c.is_classed.ensures ∙ c.if-not-is_classed.true in
+    sym (before.1 ∙ all_cons k _ r _ false step.1.0 long has)
 
 pub returns : goal.returns
-unfolding records
 returns c =
-    let a = c.args in
-    let l = c.loop-i in
-    let end : l.i ≡ length a.t.now / record_size = omega arith in
-    sym (l.invariant.1 ∙ all_end (classed a.catalogue.now) (length a.t.now / record_size) l.i a.t.now end)
+    let step = c.in-None.ensures.steps in
+    let before = c.loop-record.invariant in
+    let rest = c.loop-record.record-iterator.rest.now in
+    let short : length rest < record_size = omega (arith, step.1.0, before.0) in
+    sym (before.1 ∙ ap (all_of (classed c.args.catalogue.now)) (records_none rest short))

@@ -7,7 +7,6 @@ use Rattle.bits.specs.Bits.{val}
 use Rattle.content.specs.Halves.{bits_of, remaining}
 use Rattle.content.proofs.Lengths.{content_length_le}
 use Rattle.report.specs.declared.Form.TheVariants.{Multi}
-use Rattle.report.specs.Read.{outcome_of}
 use Rattle.report.proofs.Places.{place_small, real_lt}
 use Rattle.report.proofs.Wholes.{length_between, kept_read, kept-refused}
 use Rattle.report.proofs.Report.multi.Goals as goal
@@ -15,7 +14,7 @@ use Rattle.report.proofs.Report.multi.Goals as goal
 pub returns-then-not-is_length : goal.returns-then-not-is_length
 returns-then-not-is_length c =
     let a = c.args in
-    c.refused.ensures ∙ ap outcome_of (kept-refused a.head a.content a.size (sym c.is_length.ensures ∙ c.if-not-is_length.true))
+    (kept-refused a.head a.content a.size (sym c.is_length.ensures ∙ c.if-not-is_length.true))
 
 pub tail-rest-requires : goal.tail-rest-requires
 tail-rest-requires c =
@@ -54,8 +53,7 @@ returns c =
     let at = c.items_at-at.ensures in
     let kept = take a.size (bits_of a.content) in
     c.read_items.ensures
-    ∙ ap outcome_of
-    (kept_read a.head a.content a.size _ _
+    ∙ (kept_read a.head a.content a.size _ _
     (sym c.is_length.ensures ∙ c.if-not-is_length.false)
     (c.head.ensures ∙ ap (λ (n : ℕ). val (take n kept)) at)
     (c.tail-rest.ensures.0 ∙ ap (λ (n : ℕ). drop n kept) at))

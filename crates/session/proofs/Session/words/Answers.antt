@@ -1,41 +1,38 @@
--- The words from i on are still to be told.
-use Rattle.std.proofs.Common.{◌≡◌, ℕ, List, get_or, refl, ◌∙◌, subst, arith, drop_of_length-le}
-use Rattle.lines.proofs.Puts.{Left, left_all, left_more, left_none}
-use Rattle.session.specs.Session.{after_words, word_text, words_text}
-use Rattle.session.proofs.Turns.{after_next, text-next}
+-- The words up to the index are told.
+use Rattle.std.proofs.Common.{rules, get_or, take, refl, ap, ◌∙◌, ◌++◌, arith, take_all}
+use Rattle.lines.proofs.Puts.{put_as, put_then, put_nothing}
+use Rattle.session.specs.declared.Session.{Session}
+use Rattle.session.specs.Session.{after_words, after_word, word_text, words_text}
+use Rattle.session.proofs.Turns.{after_more, text-more}
 use Rattle.session.proofs.Session.words.Goals as goal
 
-pub loop-i-init : goal.loop-i-init
-loop-i-init c = (omega arith, omega arith, refl, left_all _ _ _)
+pub loop-word-init : goal.loop-word-init
+unfolding after_words words_text
+loop-word-init c = record { session = refl; put = put_nothing c.args.at c.args.out.now; bound = omega arith; same = refl }
 
-pub word-told-requires : goal.word-told-requires
-word-told-requires c = omega (arith, c.loop-i.invariant.1, c.loop-i.invariant.3.same, c.requires)
-
-pub loop-i-preserved : goal.loop-i-preserved
-loop-i-preserved c =
+pub loop-word-preserved : goal.loop-word-preserved
+loop-word-preserved c =
     let a = c.args in
-    let l = c.loop-i in
+    let l = c.loop-word in
     let call = c.word-told in
-    let h = c.loop-i-test.true in
+    let h = c.loop-word-test.true in
     let ws = a.words.now in
-    let next = text-next l.session call.result.session ws l.i h call.ensures.session_value in (
-      omega arith,
-      omega (arith, l.invariant.1, call.ensures.at_bound),
-      after_next l.session call.result.session ws l.i h call.ensures.session_value ∙ l.invariant.2,
-      left_more a.at (words_text a.self ws) a.out.now (word_text l.session (get_or ws l.i 0)) _ l.p _ l.out _
-          (omega (arith, l.invariant.1, l.invariant.3.same, c.requires))
-          (subst (λ (r : List ℕ). Left a.at (words_text a.self ws) a.out.now r l.p l.out) next l.invariant.3)
-          call.ensures.put
-          call.auto.out,
-    )
-
-pub shape_of-out : goal.shape_of-out
-shape_of-out c = c.loop-i.invariant.3.same
+    let i = l.word-index in
+    let w = get_or ws i 0 in record {
+      session = call.ensures.session_value ∙ ap (λ (s : Session). after_word s w) l.invariant.session ∙ after_more a.self ws i h;
+      put = put_as a.at a.out.now call.result.at call.new.out
+          (ap (λ (s : Session). words_text a.self (take i ws) ++ word_text s w) l.invariant.session ∙ text-more a.self ws i h)
+          (put_then a.at (words_text a.self (take i ws)) (word_text l.told.session w) a.out.now (omega (arith, c.requires)) l.invariant.put call.ensures.put);
+      bound = omega (arith, l.invariant.bound, call.ensures.at_bound);
+      same = search rules;
+    }
 
 pub returns : goal.returns
-unfolding after_words words_text
 returns c =
     let a = c.args in
-    let l = c.loop-i in
-    let ws = a.words.now in
-    let none = drop_of_length-le ws c.loop-i-test.false in record { session_value = subst (λ (r : List ℕ). after_words l.session r ≡ after_words a.self ws) none l.invariant.2; put = left_none a.at (words_text a.self ws) a.out.now _ _ (subst (λ (r : List ℕ). Left a.at (words_text a.self ws) a.out.now (words_text l.session r) l.p l.out) none l.invariant.3); at_bound = omega (arith, l.invariant.0, l.invariant.1) }
+    let l = c.loop-word in
+    let all = take_all l.word-index a.words.now c.loop-word-test.false in record {
+      session_value = l.invariant.session ∙ ap (after_words a.self) all;
+      put = put_as a.at a.out.now l.told.at l.out (ap (words_text a.self) all) l.invariant.put;
+      at_bound = omega (arith, l.invariant.bound, c.loop-word.auto.word-index-end);
+    }

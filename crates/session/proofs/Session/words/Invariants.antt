@@ -1,11 +1,13 @@
-use Rattle.std.proofs.Common.{◌≡◌, ◌+◌, ◌-◌, ◌*◌, ◌≤◌, length, drop}
+use Rattle.std.proofs.Common.{◌≡◌, ◌+◌, ◌*◌, ◌≤◌, length, take}
 use Rattle.lines.specs.Line.{room}
-use Rattle.lines.proofs.Puts.{Left}
+use Rattle.lines.specs.Text.{Put}
 use Rattle.session.specs.Session.{after_words, words_text}
 use Rattle.session.proofs.Session.words.Given as goal
 
-abbrev pub invariant-loop-i : goal.invariant-loop-i
-invariant-loop-i l = (l.i ≤ length l.words) × (l.p ≤ l.at + l.i * room) × (after_words l.session (drop l.i l.words) ≡ after_words l.initial.session l.words) × Left l.at (words_text l.initial.session l.words) l.initial.out (words_text l.session (drop l.i l.words)) l.p l.out
-
-abbrev pub decreases-loop-i : goal.decreases-loop-i
-decreases-loop-i l = length l.words - l.i
+abbrev pub invariant-loop-word : goal.invariant-loop-word
+invariant-loop-word l = record {
+  session : l.told.session ≡ after_words l.fn.self (take l.word-index l.words);
+  put : Put l.fn.at (words_text l.fn.self (take l.word-index l.words)) l.initial.out l.told.at l.out;
+  bound : l.told.at ≤ l.fn.at + l.word-index * room;
+  same : length l.out ≡ length l.initial.out;
+}

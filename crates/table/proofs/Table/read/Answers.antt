@@ -2,9 +2,9 @@
 use Prim.Native.Nat.{◌/◌, ◌<◌}
 use native.Mathlib.Omega.{arith}
 use mathlib.Core.Path.{◌≡◌, sym, ap, ◌∙◌}
-use mathlib.Core.Bool.{true, false}
+use mathlib.Core.Bool.{true}
 use lib.ListN.{length}
-use borrow.Author.Tests.{le-leb, lt-leb}
+use borrow.Author.Tests.{lt-leb}
 use Rattle.bits.proofs.Choice.{chosen, passed_over}
 use Rattle.record.specs.Layout.{record_size, free_record}
 use Rattle.record.specs.WellFormed.{well_formed}
@@ -17,22 +17,6 @@ use Rattle.lent.proofs.Lents.{table_records, chunk_at, all_at}
 use Rattle.table.specs.Read.{record_at}
 use Rattle.table.proofs.Sweeps.{length-records}
 use Rattle.table.proofs.Table.read.Goals as goal
-
-pub returns-then-not-table_fits : goal.returns-then-not-table_fits
-unfolding record_at
-returns-then-not-table_fits c =
-    let a = c.args in
-    let t = a.t.now in
-    let off : table_fits t ≡ false = sym c.table_fits.ensures ∙ c.if-not-table_fits.true in
-    c.nothing.ensures ∙ sym (passed_over _ _ _ off)
-
-pub returns-then-t-i : goal.returns-then-t-i
-unfolding record_at
-returns-then-t-i c =
-    let a = c.args in
-    let t = a.t.now in
-    let on : table_fits t ≡ true = sym c.table_fits.ensures ∙ c.if-not-table_fits.false in
-    c.nothing-then-t-i.ensures ∙ sym (chosen _ _ _ on ∙ chosen _ _ _ (le-leb (length t / record_size) a.i c.if-t-i.true))
 
 pub returns : goal.returns
 unfolding record_at records

@@ -13,13 +13,13 @@ use Rattle.table.proofs.sweep.sweep_expired.Goals as goal
 
 pub loop-i-init : goal.loop-i-init
 unfolding count_if chunks
-loop-i-init c = (omega arith, swept_none (freed_if (expired c.args.minute.0)) c.args.t.now, refl)
+loop-i-init c = (swept_none (freed_if (expired c.args.minute.0)) c.args.t.now, refl)
 
 pub slice_bounds-free_expired-end : goal.slice_bounds-free_expired-end
 slice_bounds-free_expired-end c =
     let a = c.args in
     let l = c.loop-i in
-    omega (arith, ap length l.invariant.1, length_swept (freed_if (expired a.minute.0)) (freed-keeps (expired a.minute.0)) l.i a.t.now l.invariant.0)
+    omega (arith, ap length l.invariant.0, length_swept (freed_if (expired a.minute.0)) (freed-keeps (expired a.minute.0)) l.i a.t.now (omega arith))
 
 pub overflow_add-expired : goal.overflow_add-expired
 overflow_add-expired c =
@@ -27,8 +27,8 @@ overflow_add-expired c =
     let l = c.loop-i in
     let p = expired a.minute.0 in
     let h : l.i < length a.t.now / record_size = omega arith in
-    let next = counted_next p l.i a.t.now l.t h l.invariant.1 p c.free_expired-expired.result c.free_expired-expired.ensures.value in
-    omega (arith, l.invariant.2, next.0, next.1)
+    let next = counted_next p l.i a.t.now l.t h l.invariant.0 p c.free_expired-expired.result c.free_expired-expired.ensures.value in
+    omega (arith, l.invariant.1, next.0, next.1)
 
 pub loop-i-preserved : goal.loop-i-preserved
 loop-i-preserved c =
@@ -37,16 +37,15 @@ loop-i-preserved c =
     let p = expired a.minute.0 in
     let f = c.free_expired-expired in
     let h : l.i < length a.t.now / record_size = omega arith in (
-      omega arith,
-      freed-next p l.i a.t.now l.t h l.invariant.1 f.new.r f.ensures.r_after,
-      ap (λ (n : ℕ). n + f.result) l.invariant.2 ∙ (counted_next p l.i a.t.now l.t h l.invariant.1 p f.result f.ensures.value).2,
+      freed-next p l.i a.t.now l.t h l.invariant.0 f.new.r f.ensures.r_after,
+      ap (λ (n : ℕ). n + f.result) l.invariant.1 ∙ (counted_next p l.i a.t.now l.t h l.invariant.0 p f.result f.ensures.value).2,
     )
 
 pub shape_of-t : goal.shape_of-t
 shape_of-t c =
     let a = c.args in
     let l = c.loop-i in
-    ap length l.invariant.1 ∙ length_swept (freed_if (expired a.minute.0)) (freed-keeps (expired a.minute.0)) l.i a.t.now l.invariant.0
+    ap length l.invariant.0 ∙ length_swept (freed_if (expired a.minute.0)) (freed-keeps (expired a.minute.0)) l.i a.t.now (omega arith)
 
 pub returns : goal.returns
 returns c =
@@ -54,4 +53,4 @@ returns c =
     let p = expired c.args.minute.0 in
     let l = c.loop-i in
     let e : l.i ≡ length t₀ / record_size = omega arith in
-    record { value = l.invariant.2 ∙ counted-all p l.i t₀ e; t_after = l.invariant.1 ∙ swept_all (freed_if p) (freed-keeps p) t₀ c.requires l.i e }
+    record { value = l.invariant.1 ∙ counted-all p l.i t₀ e; t_after = l.invariant.0 ∙ swept_all (freed_if p) (freed-keeps p) t₀ c.requires l.i e }

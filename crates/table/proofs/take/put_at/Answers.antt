@@ -14,5 +14,5 @@ pub returns : goal.returns
 returns c =
     let a = c.args in
     let i = a.place in
-    ap (λ (r : List ℕ). put_mid (i * record_size) (i * record_size + record_size - i * record_size) a.t.now r) (c.put.ensures.r_after ∙ bytes_made_lem _ a.report a.service a.classes.0 a.expiry.0 (length_part a.t.now i c.requires.1) c.requires.2)
-    ∙ put-stored a.t.now (record_of a.report a.service a.classes.0 a.expiry.0) i c.requires.0 c.requires.1
+    ap (λ (r : List ℕ). put_mid (i * record_size) (i * record_size + record_size - i * record_size) a.t.now r) (c.put-made.ensures.r_after ∙ bytes_made_lem _ a.kept a.classes.0 (length_part a.t.now i c.requires.1) c.requires.2)
+    ∙ put-stored a.t.now (record_of a.kept a.classes.0) i c.requires.0 c.requires.1

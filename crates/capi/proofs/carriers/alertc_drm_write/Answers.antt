@@ -1,4 +1,0 @@
-use Rattle.capi.proofs.carriers.alertc_drm_write.Goals as goal
-
-pub returns : goal.returns
-returns c = record { value = cc; out_after = cc }
