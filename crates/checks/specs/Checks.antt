@@ -11,6 +11,7 @@ use Rattle.record.specs.declared.Service.{Service}
 use Rattle.record.specs.Services.{service_fits}
 use Rattle.record.specs.Locations.{location_of}
 use Rattle.lent.specs.Lent.{lent_fit}
+use Rattle.lent.specs.declared.catalogue.Kind.{Kind}
 use Rattle.checks.specs.declared.Arrival.{Arrival}
 use Rattle.checks.specs.Events.{is_known, kind_for}
 
@@ -22,11 +23,13 @@ asked_fit r s lto = report_fits r && (service_fits s && offset_fits lto)
 abbrev pub minute_unfit : ℕ → ℕ → Bool
 minute_unfit last minute = ltb minute last || ltb largest minute
 
+-- the last of them: the minute (13), the code of the location (12), the kind of the event (11)
+abbrev pub later_answer : (last minute code : ℕ) → Kind → Result ⊤ Refusal
+later_answer last minute code kind =
+    must (not (minute_unfit last minute)) WrongMinute (must (not (is_flt code)) ForeignLocation (must (is_known kind) UnknownEvent (Ok tt)))
+
 -- the first refusal but that for want of room. An FLT code is one on a single-group report, or the real location of an INTER-ROAD one
 unfoldable pub check_answer : (t catalogue lives : List ℕ) → ℕ → Arrival → ℤ → Result ⊤ Refusal
 check_answer t catalogue lives last a lto =
     must (lent_fit t catalogue lives) Malformed
-    (must (asked_fit a.report a.service lto) Unfit
-    (must (not (minute_unfit last a.minute.0)) WrongMinute
-    (must (not (is_flt (location_of a.service a.report).code)) ForeignLocation
-    (must (is_known (kind_for catalogue a.report)) UnknownEvent (Ok tt)))))
+    (must (asked_fit a.report a.service lto) Unfit (later_answer last a.minute.0 (location_of a.service a.report).code (kind_for catalogue a.report)))

@@ -1,7 +1,8 @@
 // The items of content bits.
-ghost use Rattle.std.specs.Prelude.{◌≡◌, ◌+◌, ◌*◌, ◌≤◌, take, is_ok, OnOk, IfErr};
+ghost use Rattle.std.specs.Prelude.{◌≡◌, ◌+◌, ◌*◌, ◌≤◌, false, take, is_ok, IsErr};
 ghost use Rattle.bits.specs.Outcome.{mapped};
-ghost use Rattle.content.specs.Items.{items};
+ghost use Rattle.bits.specs.Bits.{all_zero};
+ghost use Rattle.content.specs.Items.{first, items};
 ghost use Rattle.content.specs.Content.{content};
 ghost use Rattle.content.specs.Packing.{longest};
 ghost use Rattle.content.specs.Halves.{bits_of, remaining};
@@ -39,26 +40,35 @@ pub fn read(c: Content, size: usize) -> Result<Items, Unread>
         return Err(Unread::TooLong);
     }
     let mut items = Items::new();
-    let rest = Rest {
+    let mut rest = Rest {
         bits: c,
         left: size,
     };
-    read_rest(rest, &mut items)?;
-    Ok(items)
+    read_rest(&mut rest, &mut items);
+    if rest.is_zero() {
+        Ok(items)
+    } else {
+        Err(rest.take_item().unwrap_err().into())
+    }
 }
 
-// Adds the items of the rest to those found: one item, and then the reading of the rest after it.
-fn read_rest(rest: Rest, found: &mut Items) -> Result<(), Unread>
-    requires { (4 * found.old.count + rest.left ≤ longest) × (filled (listed found.old) ≡ found.old) }
-    ensures ok { OnOk result (mapped filled (appended (listed found.old) (items (remaining rest))) ≡ Ok found.new) }
-    ensures err { IfErr result (λ unread. items (remaining rest) ≡ Err unread) }
+// Takes one item and then reads the rest after it: the items go after those found, and what is left is all zero or begins with no item.
+// Nothing is answered, so that the compiler makes a loop of it.
+fn read_rest(rest: &mut Rest, found: &mut Items)
+    requires { (4 * found.old.count + rest.old.left ≤ longest) × (filled (listed found.old) ≡ found.old) }
+    ensures same { appended (listed found.new) (items (remaining rest.new)) ≡ appended (listed found.old) (items (remaining rest.old)) }
+    ensures kept { filled (listed found.new) ≡ found.new }
+    ensures shorter { rest.new.left ≤ rest.old.left }
+    ensures ended { all_zero (remaining rest.new) ≡ false → IsErr (first (remaining rest.new)) }
 {
     if rest.is_zero() {
-        return Ok(());
+        return;
     }
-    let taken = rest.take_item()?;
-    found.push(taken.item);
-    read_rest(taken.rest, found)
+    if let Ok(taken) = rest.take_item() {
+        found.push(taken.item);
+        *rest = taken.rest;
+        read_rest(rest, found);
+    }
 }
 
 // Whether the first `n` bits read as items.

@@ -1,12 +1,12 @@
 -- The laws of rows and their stages.
-use Rattle.std.proofs.Common.{◌≡◌, refl, ◌∙◌, ℕ, ◌+◌, ◌-◌, ◌^◌, ◌<◌, ◌≤◌, Bool, true, false, ◌&&◌, None, Some, arith}
-use lib.Dec.{ltb, leb}
-use borrow.Author.Tests.{leb-true, ltb-true, lt-ltb, ne_eqb}
+use Rattle.std.proofs.Common.{◌≡◌, refl, sym, ◌∙◌, ℕ, ◌+◌, ◌-◌, ◌^◌, ◌<◌, ◌≤◌, Bool, true, false, ◌&&◌, None, Some, is_some, arith}
+use lib.Dec.{eqb, ltb, leb}
+use borrow.Author.Tests.{eqb-true, leb-true, ltb-true, lt-ltb, ne_eqb}
 use Rattle.bits.proofs.Choice.{and_left, and_right}
 use Rattle.labels.specs.Telephone.{number_codes, letter_codes}
 use Rattle.labels.specs.declared.stage.Stage.{Stage}
 use Rattle.labels.specs.declared.stage.Stage.TheVariants.{Labels, Numbers, Letters, Cost, Currency}
-use Rattle.labels.specs.Rows.{first_row, row_count, code_width, label_rows, code_row, cost_rows, rows, width, next, stage_of}
+use Rattle.labels.specs.Rows.{first_row, row_count, code_width, code_width_at, label_rows, code_row, cost_rows, rows, width, next, stage_of, stage_at}
 use Rattle.labels.proofs.Table.{at_each, next_is}
 
 -- a test of a row and its stage
@@ -40,6 +40,29 @@ module _ (r : ℕ) (h : r < row_count) (s : Stage) (e : stage_of r ≡ Some s) w
   pub four-bits : 4 ≤ code_width s + width r
   unfolding number_codes letter_codes label_rows code_row cost_rows rows width long
   four-bits = leb-true 4 (code_width s + width r) (staged long r s e (at_each (of_stage long) (λ k. true) refl r h))
+
+  -- its stage by number is the same
+  same : Stage → ℕ → Bool
+  same s r = eqb (stage_at r) (first_row s)
+
+  pub stage_same : stage_at r ≡ first_row s
+  unfolding same
+  stage_same = eqb-true (stage_at r) (first_row s) (staged same r s e (at_each (of_stage same) (λ k. true) refl r h))
+
+-- every row has a stage
+pub row_staged : (r : ℕ) → r < row_count → is_some (stage_of r) ≡ true
+row_staged r h = at_each (λ k. is_some (stage_of k)) (λ k. true) refl r h
+
+-- a stage's codes by number are as wide; those of a number that is no stage's have four bits
+pub code_width_same : (s : Stage) → code_width_at (first_row s) ≡ code_width s
+code_width_same Labels = refl
+code_width_same Numbers = refl
+code_width_same Letters = refl
+code_width_same Cost = refl
+code_width_same Currency = refl
+
+pub code_four : (n : ℕ) → (n ≡ 32 → ⊥) → (64 ≤ n → n ≤ 65 → ⊥) → 4 ≡ code_width_at n
+code_four n a b = sym (rw (ne_eqb n 32 a, ne_eqb n 64 (λ e. b (omega arith) (omega arith)), ne_eqb n 65 (λ e. b (omega arith) (omega arith)), code_width_at))
 
 -- a stage begins at a row
 pub stage_row : (s : Stage) → first_row s < row_count

@@ -1,6 +1,6 @@
 -- The one table of labels, sub-labels and the codes of telephone references: ISO 14819-1 clauses 5.5.1, 5.5.15 and 5.5.16. Content is a run of
 -- codes, each with a value as wide as the code's row says, and the row and the value tell what is due next.
-use Rattle.std.specs.Prelude.{ℕ, ◌+◌, cond, List, [], ◌∷◌, ◌++◌, map, get_or, eqb, ltb, Option, None, Some}
+use Rattle.std.specs.Prelude.{ℕ, ◌+◌, ◌||◌, cond, List, [], ◌∷◌, ◌++◌, map, get_or, eqb, ltb, Option, None, Some}
 use Rattle.labels.specs.Telephone.{defined, Code, shown, letters_follow, numbers_follow, option_letters, option_numbers, end, number_codes, letter_codes, costless}
 use Rattle.labels.specs.declared.rules.Edition.TheVariants.{Older, Newer}
 use Rattle.labels.specs.declared.rules.Rules.{Rules}
@@ -29,6 +29,10 @@ code_width Numbers = 4
 code_width Letters = 5
 code_width Cost = 0
 code_width Currency = 0
+
+-- the same by the number of the first row; a number that is no stage's has the width of a label
+abbrev pub code_width_at : ℕ → ℕ
+code_width_at n = cond (eqb n 32) 5 (cond (eqb n 64 || eqb n 65) 0 4)
 
 -- what is due after a value: a stage, or the value tells it, a sub-label or a time unit
 pub data Due : Type 0 where
@@ -92,6 +96,10 @@ stage_of r =
     (cond (ltb r 64) (Some Letters)
     (cond (eqb r 64) (Some Cost)
     (cond (eqb r 65) (Some Currency) None))))
+
+-- the first row of its stage; past the last row the row itself
+abbrev pub stage_at : ℕ → ℕ
+stage_at r = cond (ltb r 16) 0 (cond (ltb r 32) 16 (cond (ltb r 64) 32 r))
 
 -- the rows of an edition: the older has labels 0 to 14 alone
 abbrev pub rows_of : Rules → ℕ

@@ -1,6 +1,6 @@
 // The one table: how wide a value follows a label or a code, and what is due after it.
 ghost use Rattle.std.specs.Prelude.{◌≡◌, ◌≤◌, Some};
-ghost use Rattle.labels.specs.Rows.{row_count, by_sublabel, by_time_unit, by_value, width, next, rows_of};
+ghost use Rattle.labels.specs.Rows.{row_count, by_sublabel, by_time_unit, by_value, code_width_at, width, next, stage_at, rows_of};
 
 use crate::rules::{Edition, Rules};
 use crate::stage::Stage;
@@ -28,7 +28,9 @@ const OPTION_NUMBERS: u16 = 32 + 30;
 
 const LETTERS_END: u16 = 32 + 31;
 
-// The values that have no code.
+// The first row of letter codes, and the values that have no code.
+const LETTERS: u16 = 32;
+
 const COST: u16 = 64;
 
 const CURRENCY: u16 = 65;
@@ -40,6 +42,17 @@ pub fn rows_of(rules: Rules) -> u16
     match rules.edition {
         Edition::Older => OLDER_ROWS,
         Edition::Newer => ROWS,
+    }
+}
+
+// The bits of the codes of a stage, by the number of its first row; those of a label for a number that is no stage's.
+pub fn code_width(stage: u16) -> usize
+    ensures { (result ≡ code_width_at stage) × (result ≤ 5) }
+{
+    match stage {
+        LETTERS => 5,
+        COST | CURRENCY => 0,
+        _ => 4,
     }
 }
 
@@ -97,5 +110,17 @@ fn after_time_unit(value: u16) -> Stage
     match value {
         0 | 6 => Stage::Labels,
         _ => Stage::Cost,
+    }
+}
+
+// The first row of the stage that a row belongs to; past the last row the row itself.
+pub fn stage_of(row: u16) -> u16
+    ensures { result ≡ stage_at row }
+{
+    match row {
+        0..=15 => 0,
+        16..=31 => 16,
+        32..=63 => LETTERS,
+        _ => row,
     }
 }

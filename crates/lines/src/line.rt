@@ -90,8 +90,8 @@ pub fn put_refusal(out: &mut [u8], at: usize, frame: u64, refusal: Unreadable) -
     }
 }
 
-// The mark of a refusal and the numbers after it.
-fn put_marked(out: &mut [u8], at: usize, values: &[u64]) -> usize
+// The mark of a refusal and the numbers after it, whatever numbers they are.
+pub fn put_marked(out: &mut [u8], at: usize, values: &[u64]) -> usize
     requires { at + 2 + field_room * length values.now ≤ length out.old }
     ensures put { Put at (marked values.now) out.old result out.new }
     ensures upper_bound { result ≤ at + 2 + field_room * length values.now }

@@ -57,11 +57,16 @@ pub fn message_of(r: &[u8]) -> Result<Report, Unreadable>
     message(r)
 }
 
-// Whether `message_of` refuses nothing.
+// Whether `message_of` refuses nothing. No report is made for it.
+#[tactic(auto, using(crate::proofs::Readings::has_known))]
 pub fn reads(r: &[u8]) -> bool
     ensures { result ≡ is_ok (message_of r.now) }
 {
-    message_of(r).is_ok()
+    if !has_groups(r) {
+        return false;
+    }
+    let groups = r[Record::GROUPS] as usize;
+    groups == 1 || content::read::reads(content(r), Content::GROUP * (groups - 1))
 }
 
 // Whether the bytes are one record's, with one to five groups.

@@ -47,7 +47,7 @@ impl Report {
         ensures { result ≡ read_bits head (take size (bits_of content)) }
     {
         if !Content::is_length(size) {
-            return Err(Unreadable::Refused(Refusal::WrongLength));
+            return Err(Refusal::WrongLength.into());
         }
         let at = items_at(Form::Multi, head);
         let whole = Rest {

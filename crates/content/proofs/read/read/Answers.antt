@@ -2,7 +2,7 @@
 use Prim.Native.Nat.{ℕ, ◌≤◌}
 use native.Mathlib.Omega.{arith}
 use mathlib.Core.Path.{◌≡◌, ap, sym, ◌∙◌}
-use mathlib.Core.List.{List, []}
+use mathlib.Core.List.{[]}
 use lib.ListN.{take, length-take}
 use Rattle.bits.specs.Outcome.{mapped}
 use Rattle.content.specs.Items.{items}
@@ -10,14 +10,12 @@ use Rattle.content.specs.Content.{content}
 use Rattle.content.specs.Packing.{longest}
 use Rattle.content.specs.Halves.{bits_of, remaining}
 use Rattle.content.specs.Stored.{filled, listed}
-use Rattle.content.specs.Answers.{appended}
-use Rattle.content.specs.declared.item.Item.{Item}
 use Rattle.content.specs.declared.items.Items.{Items}
 use Rattle.content.specs.declared.content.Content.{Content}
 use Rattle.content.proofs.Halves.{length-bits_of}
 use Rattle.content.proofs.Lengths.{content-items, content-refused}
 use Rattle.content.proofs.Places.{listed-filled, refilled}
-use Rattle.content.proofs.Reader.{found_none, read_told}
+use Rattle.content.proofs.Reader.{all_found, broken_found}
 use Rattle.content.proofs.read.read.Goals as goal
 
 short : (c : Content) (n : ℕ) → n ≤ longest → content (take n (bits_of c)) ≡ items (take n (bits_of c))
@@ -34,14 +32,20 @@ read_rest-requires c =
     let none : c.new-items.result.count ≡ 0 = ap (λ (s : Items). s.count) c.new-items.ensures in
     (omega (arith, c.if-size-gt-LONGEST.false), refilled [] c.new-items.result c.new-items.ensures)
 
-pub returns-in_err-read_rest : goal.returns-in_err-read_rest
+pub returns-then-is_zero : goal.returns-then-is_zero
 unfolding remaining
-returns-in_err-read_rest c = read_told c.from_residual.result c.in_err-read_rest.field-0.0 _ c.from_residual.ensures.1 (short c.args.c c.args.size c.if-size-gt-LONGEST.false ∙ c.in_err-read_rest.ensures.err)
-
-pub returns : goal.returns
-unfolding remaining
-returns c =
+returns-then-is_zero c =
     let a = c.args in
-    let l = take a.size (bits_of a.c) in
     let none : listed c.new-items.result ≡ [] = ap listed c.new-items.ensures ∙ listed-filled [] in
-    sym (ap (mapped filled) (short a.c a.size c.if-size-gt-LONGEST.false ∙ sym (found_none (items l)) ∙ ap (λ (its : List Item). appended its (items l)) (sym none)) ∙ c.in_ok-read_rest.ensures.ok)
+    let e = c.read_rest.ensures in
+    all_found _ _ _ _ none e.same e.kept (sym c.is_zero.ensures ∙ c.if-is_zero.true)
+    ∙ sym (ap (mapped filled) (short a.c a.size c.if-size-gt-LONGEST.false))
+
+pub returns-else-is_zero : goal.returns-else-is_zero
+unfolding remaining
+returns-else-is_zero c =
+    let a = c.args in
+    let none : listed c.new-items.result ≡ [] = ap listed c.new-items.ensures ∙ listed-filled [] in
+    let e = c.read_rest.ensures in
+    broken_found _ _ _ _ _ _ _ none e.same (sym c.is_zero.ensures ∙ c.if-is_zero.false) c.take_item.ensures.first c.unwrap_err.ensures c.into.ensures
+    ∙ sym (ap (mapped filled) (short a.c a.size c.if-size-gt-LONGEST.false))

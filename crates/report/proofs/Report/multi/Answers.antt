@@ -3,10 +3,13 @@ use Prim.Native.Nat.{ℕ}
 use native.Mathlib.Omega.{arith}
 use mathlib.Core.Path.{sym, ap, ◌∙◌}
 use lib.ListN.{take, drop}
+use Rattle.std.specs.Prelude.{Err}
 use Rattle.bits.specs.Bits.{val}
 use Rattle.content.specs.Halves.{bits_of, remaining}
 use Rattle.content.proofs.Lengths.{content_length_le}
 use Rattle.report.specs.declared.Form.TheVariants.{Multi}
+use Rattle.report.specs.declared.Unreadable.{Unreadable}
+use Rattle.report.specs.Read.{Reading}
 use Rattle.report.proofs.Places.{place_small, real_lt}
 use Rattle.report.proofs.Wholes.{length_between, kept_read, kept-refused}
 use Rattle.report.proofs.Report.multi.Goals as goal
@@ -14,7 +17,8 @@ use Rattle.report.proofs.Report.multi.Goals as goal
 pub returns-then-not-is_length : goal.returns-then-not-is_length
 returns-then-not-is_length c =
     let a = c.args in
-    (kept-refused a.head a.content a.size (sym c.is_length.ensures ∙ c.if-not-is_length.true))
+    ap (λ (x : Unreadable). let y : Reading = Err x in y) c.into.ensures
+    ∙ kept-refused a.head a.content a.size (sym c.is_length.ensures ∙ c.if-not-is_length.true)
 
 pub tail-rest-requires : goal.tail-rest-requires
 tail-rest-requires c =
